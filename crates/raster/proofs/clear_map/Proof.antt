@@ -1,0 +1,39 @@
+-- `raster::clear_map` meets its contract. The invariant: the first i components are the mark, the rest are as they were.
+-- Assumes nothing.
+use Prim.Native.Nat.{_-_}
+use native.Mathlib.Omega.{arith}
+use lib.ListN.{length}
+use Rattle.raster.proofs.Filling.{Filling, fill-none, fill-more, fill-all}
+use Rattle.raster.specs.Vector.{mark}
+use Rattle.raster.proofs.clear_map.Statement.{statement}
+use Rattle.raster.proofs.clear_map.Tie as tie
+
+abbrev Inv-loop : tie.InvT-loop
+Inv-loop map₀ i₀ i-end map i = Filling mark map₀ i map
+
+abbrev μ-loop : tie.MeasureT-loop
+μ-loop map₀ i₀ i-end map i = length map₀ - i
+
+loop-holds : tie.Need-loop-holds Inv-loop μ-loop
+loop-holds c = fill-none mark _
+
+loop-again : tie.Need-loop-again Inv-loop μ-loop
+loop-again c = fill-more (c .before .loop .inv) (omega arith)
+
+returns : tie.Need-returns Inv-loop μ-loop
+returns c = fill-all (c .before .loop .inv) (omega arith)
+
+pub clear-map-spec : {M : Type 1} → statement M
+clear-map-spec =
+    tie.close
+    (tie.spec
+    Inv-loop
+    μ-loop
+    loop-holds
+    (λ c. omega arith)
+    (λ c. omega arith)
+    (λ c. omega arith)
+    (λ c. omega arith)
+    loop-again
+    (λ c. omega arith)
+    returns)

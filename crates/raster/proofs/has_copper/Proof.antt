@@ -1,0 +1,58 @@
+-- `raster::has_copper` meets its contract. The invariant: the flag says whether some pixel below p has size 0.
+-- Assumes nothing.
+use mathlib.Core.Path.{_≡_, refl, ap, ap₂, _∙_}
+use mathlib.Core.Bool.{Bool, _||_}
+use Prim.Native.Nat.{ℕ, _+_, _-_, _≤_}
+use native.Mathlib.Numerals.{add-one}
+use native.Mathlib.Omega.{arith}
+use lib.Dec.{eqb}
+use lib.ListN.{length}
+use mir.Syntax.{w16}
+use mir.Val.{SFits}
+use mir.ValLaws.{toZ-ofZ}
+use borrow.Author.Needs.{needs}
+use Rattle.raster.specs.Loop.{some}
+use Rattle.raster.specs.Map.{hasCopper, dxAt, dyAt}
+use Rattle.raster.specs.Vector.{size}
+use Rattle.raster.proofs.has_copper.Statement.{statement}
+use Rattle.raster.proofs.has_copper.Tie as tie
+
+abbrev Inv-loop : tie.InvT-loop
+Inv-loop map n found₀ p₀ found p = (found ≡ hasCopper p map) × (p ≤ n)
+
+abbrev μ-loop : tie.MeasureT-loop
+μ-loop map n found₀ p₀ found p = n - p
+
+loop-holds : tie.Need-loop-holds Inv-loop μ-loop
+unfolding hasCopper some
+loop-holds c = (refl, search needs)
+
+loop-again : tie.Need-loop-again Inv-loop μ-loop
+unfolding hasCopper some
+loop-again c =
+    let l = c .before .before .before .before in
+    let f : SFits w16 (c .before .before .dx-at .result) = record { sfits = c .before .before .dx-at .ok } in
+    let g : SFits w16 (c .before .dy-at .result) = record { sfits = c .before .dy-at .ok } in
+    let e = simp (c .before .before .dx-at .ensures, c .before .dy-at .ensures) at (simp (toZ-ofZ, f, g) at (c .size-of .ensures)) in
+    (rw add-one (ap₂ (λ (a : ℕ) (b : Bool). eqb a 0 || b) e (l .loop .inv .0)), omega arith)
+
+returns : tie.Need-returns Inv-loop μ-loop
+returns c =
+    let l = c .before in
+    let n : l .loop .p ≡ l .before .args .n = omega arith in
+    rw (← n) (l .loop .inv .0)
+
+pub has-copper-spec : {M : Type 1} → statement M
+has-copper-spec =
+    tie.close
+    (tie.spec
+    Inv-loop
+    μ-loop
+    loop-holds
+    (λ c κs. omega arith)
+    (λ c κs. omega arith)
+    (λ c κs. search needs)
+    (λ c. omega arith)
+    (λ c. omega arith)
+    loop-again
+    returns)

@@ -1,0 +1,51 @@
+-- The laws of squared distance. Every comparison of distances becomes a linear one over products by `gap-square`.
+-- Assumes nothing.
+use mathlib.Core.Path.{_≡_, refl, ap, _∙_}
+use Prim.Native.Nat.{ℕ, _+_, _*_, _-_, _≤_, _<_}
+use native.Mathlib.Decide.{decLe}
+use native.Mathlib.Nat.{mul-le-mul}
+use native.Mathlib.Omega.{arith}
+use Rattle.raster.specs.Distance.{gap, apart, Clear, Near}
+
+-- the gap of two numbers in order
+pub gap-up : (a b : ℕ) → a ≤ b → a + gap a b ≡ b
+unfolding gap
+gap-up a b h = omega arith
+
+pub gap-swap : (a b : ℕ) → gap a b ≡ gap b a
+unfolding gap
+gap-swap a b = omega arith
+
+pub gap-self : (a : ℕ) → gap a a ≡ 0
+unfolding gap
+gap-self a = omega arith
+
+-- the gap of two places of a line is shorter than the line
+pub gap-below : (a b n : ℕ) → a < n → b < n → gap a b < n
+unfolding gap
+gap-below a b n h k = omega arith
+
+-- (a − b)² = a² + b² − 2ab
+pub gap-square : (a b : ℕ) → gap a b * gap a b + 2 * (a * b) ≡ a * a + b * b
+gap-square a b = elim (decLe a b) [
+  | yes h ↦ up a b h
+  | no n ↦ let e = gap-swap a b in rw e (omega (arith, up b a (omega arith)))
+]
+  where
+    up : (a b : ℕ) → a ≤ b → gap a b * gap a b + 2 * (a * b) ≡ a * a + b * b
+    up a b h = let e = gap-up a b h in omega (arith, ap (λ (t : ℕ). t * t) e, ap (λ (t : ℕ). a * t) e)
+
+-- squares grow with their roots, and back
+pub square-le : {a b : ℕ} → a ≤ b → a * a ≤ b * b
+square-le h = mul-le-mul h h
+
+pub root-le : (a b : ℕ) → a * a ≤ b * b → a ≤ b
+root-le a b h = elim (decLe a b) [ yes p ↦ p | no n ↦ absurd (far (omega arith)) ]
+  where
+    far : b + 1 ≤ a → ⊥
+    far q = omega (arith, square-le q)
+
+-- a pixel is at squared distance 0 from itself
+pub apart-self : (x y : ℕ) → apart x y x y ≡ 0
+unfolding apart
+apart-self x y = rw (gap-self x, gap-self y)

@@ -1,0 +1,38 @@
+-- A vector of the map, two signed 16-bit numbers: document 01, "Sheet, map, session", and its "Engines" on candidates.
+-- Assumes nothing.
+use mathlib.Core.Path.{_≡_}
+use mathlib.Core.Bool.{Bool, false, _&&_, _||_}
+use Prim.Native.Nat.{ℕ, _+_, _*_}
+use lib.Dec.{eqb, ltb, leb}
+use lib.IntN.{ℤ, pos, negsuc, natAbs, _+ℤ_}
+use Rattle.raster.specs.Limits.{maxReach}
+
+-- size, document 01's word for dx² + dy²
+unfoldable pub size : ℤ → ℤ → ℕ
+size dx dy = natAbs dx * natAbs dx + natAbs dy * natAbs dy
+
+-- −32,768
+abbrev pub mark : ℤ
+mark = negsuc 32767
+
+-- z is the mark
+abbrev pub isMark : ℤ → Bool
+isMark (pos n) = false
+isMark (negsuc n) = eqb n 32767
+
+-- both components are the mark: one alone is a vector like any other
+abbrev pub unlabelled : ℤ → ℤ → Bool
+unlabelled dx dy = isMark dx && isMark dy
+
+-- not outside ±2,047, as refusal 35 asks
+abbrev pub inRange : ℤ → Bool
+inRange z = leb (natAbs z) maxReach
+
+-- (cx, cy) replaces (dx, dy): that is unlabelled or larger in size; an equal one does not
+unfoldable pub replaces : ℤ → ℤ → ℤ → ℤ → Bool
+replaces dx dy cx cy = unlabelled dx dy || ltb (size cx cy) (size dx dy)
+
+-- the way from (x, y) by (dx, dy) ends at the pixel (i, j)
+pub record Ends (x y : ℕ) (dx dy : ℤ) (i j : ℕ) : Type 0 where
+  pub column : pos x +ℤ dx ≡ pos i
+  pub row : pos y +ℤ dy ≡ pos j

@@ -1,0 +1,66 @@
+-- The laws of vectors: how far a component reaches, and the link from a vector that ends at a pixel to squared distance. After it no proof
+-- speaks of signed numbers.
+-- Assumes nothing.
+use mathlib.Core.Path.{_≡_, refl, ap₂}
+use mathlib.Core.Bool.{Bool, true, false, cond}
+use Prim.Native.Nat.{ℕ, suc, _+_, _-_, _≤_}
+use native.Mathlib.Omega.{arith}
+use lib.Dec.{ltb}
+use lib.IntN.{ℤ, pos, negsuc, natAbs, subℕ, _+ℤ_, +ℤ-idr, +ℤ-assoc, +ℤ-comm, pos-ne-negsuc}
+use borrow.Author.Tests.{ne-eqb, ltb-true, ltb-false, leb-true}
+use Rattle.raster.specs.Distance.{gap, apart}
+use Rattle.raster.specs.Vector.{size, inRange, unlabelled, Ends}
+
+-- ---- sums
+
+sub-abs : (a b : ℕ) → natAbs (subℕ a b) ≡ (a - b) + (b - a)
+sub-abs a b = go (ltb a b) refl
+  where
+    go : (t : Bool) → ltb a b ≡ t → natAbs (cond t (negsuc (b - suc a)) (pos (a - b))) ≡ (a - b) + (b - a)
+    go true e = omega (arith, ltb-true a b e)
+    go false e = omega (arith, ltb-false a b e)
+
+pub add-abs : (a b : ℤ) → natAbs (a +ℤ b) ≤ natAbs a + natAbs b
+add-abs (pos a) (pos b) = omega arith
+add-abs (pos a) (negsuc b) = omega (arith, sub-abs a (suc b))
+add-abs (negsuc a) (pos b) = omega (arith, sub-abs b (suc a))
+add-abs (negsuc a) (negsuc b) = omega arith
+
+-- ---- the range ±2,047
+
+pub range-abs : (z : ℤ) → inRange z ≡ true → natAbs z ≤ 2047
+range-abs z e = leb-true (natAbs z) 2047 e
+
+-- a vector in the range is not the mark's
+pub range-labelled : (x y : ℤ) → inRange x ≡ true → unlabelled x y ≡ false
+range-labelled (pos n) y e = refl
+range-labelled (negsuc n) y e = rw (ne-eqb n 32767 (let h = range-abs (negsuc n) e in omega arith))
+
+-- ---- where a vector ends
+
+-- a component reaches as far as the two places lie apart
+pub reach : (x i : ℕ) (d : ℤ) → pos x +ℤ d ≡ pos i → natAbs d ≡ gap x i
+unfolding gap
+reach x i (pos n) e = let f : x + n ≡ i = cc in omega arith
+reach x i (negsuc n) e = go (ltb x (suc n)) refl e
+  where
+    go : (t : Bool) → ltb x (suc n) ≡ t → cond t (negsuc (suc n - suc x)) (pos (x - suc n)) ≡ pos i → suc n ≡ (x - i) + (i - x)
+    go true s f = let z : _≡_ {A = ℕ} 0 1 = cc in omega arith
+    go false s f = let g : x - suc n ≡ i = cc in omega (arith, ltb-false x (suc n) s)
+
+-- a vector's size is the squared distance to the pixel where it ends
+pub ends-size : {x y : ℕ} {dx dy : ℤ} {i j : ℕ} → Ends x y dx dy i j → size dx dy ≡ apart x y i j
+unfolding size apart
+ends-size {x} {y} {dx} {dy} {i} {j} e = rw (reach x i dx (e .column), reach y j dy (e .row))
+
+-- no way at all ends where it starts
+pub ends-here : (x y : ℕ) → Ends x y (pos 0) (pos 0) x y
+ends-here x y = record { column = +ℤ-idr (pos x); row = +ℤ-idr (pos y) }
+
+-- a neighbour's vector plus the neighbour's place less the pixel's ends where the neighbour's ends
+pub ends-step : {x y a b : ℕ} {ox oy dx dy : ℤ} {i j : ℕ} → Ends x y ox oy a b → Ends a b dx dy i j → Ends x y (dx +ℤ ox) (dy +ℤ oy) i j
+ends-step {x} {y} {a} {b} {ox} {oy} {dx} {dy} {i} {j} o e =
+    record { column = along x a i ox dx (o .column) (e .column); row = along y b j oy dy (o .row) (e .row) }
+  where
+    along : (x a i : ℕ) (o d : ℤ) → pos x +ℤ o ≡ pos a → pos a +ℤ d ≡ pos i → pos x +ℤ (d +ℤ o) ≡ pos i
+    along x a i o d p q = rw (+ℤ-comm d o, ← +ℤ-assoc (pos x) o d, p) q

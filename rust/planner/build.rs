@@ -1,0 +1,12 @@
+//! Links the archive that `rt staticlib planner` writes.
+
+use std::path::Path;
+
+fn main() {
+    let folder = Path::new(env!("CARGO_MANIFEST_DIR")).join("../../target/staticlib");
+    let archive = folder.join("libplanner.a");
+    assert!(archive.exists(), "{} is missing: run `rt staticlib planner` first", archive.display());
+    println!("cargo:rerun-if-changed={}", archive.display());
+    println!("cargo:rustc-link-search=native={}", folder.display());
+    println!("cargo:rustc-link-lib=static=planner");
+}
