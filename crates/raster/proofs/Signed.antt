@@ -2,27 +2,25 @@
 -- answer says `simp (toZ-ofZ, +ℤ-idl, facts that each number fits) t`, and t speaks of plain numbers of ℤ, by the lemmas below.
 -- Assumes nothing.
 use mathlib.Core.Path.{_≡_, refl}
-use mathlib.Core.Bool.{Bool, true, false, not, cond, _&&_}
-use Prim.Native.Nat.{ℕ, zero, suc, _+_, _*_, _-_, _<_, _≤_, _^_}
+use mathlib.Core.Bool.{not, _&&_, and-true}
+use Prim.Native.Nat.{zero, suc, _+_, _-_, _≤_}
 use native.Mathlib.Omega.{arith}
-use native.Mathlib.Nat.{mul-le-mul}
-use lib.Dec.{T, ltb→lt, eqb, ltb, leb, leb·suc-suc}
-use borrow.Author.Tests.{ne-eqb, ltb-true, ltb-false, leb-true}
-use mathlib.Core.Bool.{and-true}
-use Rattle.raster.specs.Tests.{same-test}
-use Rattle.raster.specs.Vector.{isMark, inRange}
-use Rattle.raster.specs.VectorLaws.{add-abs, range-abs}
-use lib.IntN.{ℤ, pos, negsuc, natAbs, negℤ, subℕ, _-ℤ_, _+ℤ_}
+use lib.Dec.{T, ltb→lt, eqb, ltb, leb·suc-suc}
+use lib.IntN.{ℤ, pos, negsuc, natAbs, negℤ, _+ℤ_}
 use lib.Signed.{ltZ, nonNeg, mag}
 use mir.Syntax.{w16, w32}
 use mir.Val.{SFits, Fits, ofZ}
+use borrow.Author.Tests.{ne-eqb}
+use Rattle.raster.specs.Tests.{same-test}
+use Rattle.raster.specs.Vector.{Short, Wide, Step, isMark, inRange}
+use Rattle.raster.specs.VectorLaws.{add-abs}
 
 -- what 16 bits hold, 32 bits hold
 pub widen : {z : ℤ} → SFits w16 z → SFits w32 z
 widen f = omega arith
 
--- −z of such a number fits 32 bits, and has the same distance from 0
-pub minus-fits : (z : ℤ) → SFits w16 z → SFits w32 (negℤ z)
+-- −z of a number that is not too far off fits, and is as far from 0
+pub minus-fits : (z : ℤ) → Wide z → SFits w32 (negℤ z)
 minus-fits (pos zero) f = omega arith
 minus-fits (pos (suc n)) f = omega arith
 minus-fits (negsuc n) f = omega arith
@@ -42,37 +40,31 @@ pub left-nonNeg : (z : ℤ) → T (not (ltZ z (pos 0))) → T (nonNeg z)
 left-nonNeg (pos n) t = tt
 left-nonNeg (negsuc n) t = t
 
--- the distance from 0, and its square
-pub abs-le : (z : ℤ) → SFits w16 z → natAbs z ≤ 32768
-abs-le (pos n) f = omega arith
-abs-le (negsuc n) f = omega arith
-
-pub abs-fits : (z : ℤ) → SFits w16 z → Fits w32 (natAbs z)
-abs-fits z f = omega (arith, abs-le z f)
-
-pub square-le : (z : ℤ) → SFits w16 z → natAbs z * natAbs z ≤ 1073741824
-square-le z f = mul-le-mul (abs-le z f) (abs-le z f)
+-- the distance from 0
+pub abs-fits : (z : ℤ) → Wide z → Fits w32 (natAbs z)
+abs-fits z f = omega arith
 
 -- the mark, by its bits
-pub mark-bits : (z : ℤ) → SFits w16 z → eqb (ofZ w16 z) 32768 ≡ isMark z
-mark-bits (pos n) f = ne-eqb n 32768 (omega arith)
-mark-bits (negsuc n) f = same-test (65536 - suc n) 32768 n 32767 (omega arith) (omega arith)
+pub mark-bits : (z : ℤ) → SFits w32 z → eqb (ofZ w32 z) 4294934528 ≡ isMark z
+mark-bits (pos n) f = ne-eqb n 4294934528 (omega arith)
+mark-bits (negsuc n) f = same-test (4294967296 - suc n) 4294934528 n 32767 (omega arith) (omega arith)
 
--- ---- sums
-
-pub mag-le : (z : ℤ) → mag z ≤ natAbs z
+-- a component and a step add up in 32 bits
+mag-le : (z : ℤ) → mag z ≤ natAbs z
 mag-le (pos n) = omega arith
 mag-le (negsuc n) = omega arith
 
--- two numbers of 16 bits add up in 32
-pub sum-fits : (a b : ℤ) → SFits w16 a → SFits w16 b → SFits w32 (a +ℤ b)
-sum-fits a b f g = omega (arith, mag-le (a +ℤ b), add-abs a b, abs-le a f, abs-le b g)
+pub short-wide : (z : ℤ) → Short z → natAbs z ≤ 32768
+short-wide (pos n) s = omega arith
+short-wide (negsuc n) s = omega arith
 
--- ---- the range −2,047 to 2,047
+pub sum-wide : (a b : ℤ) → Short a → Step b → Wide (a +ℤ b)
+sum-wide a b f g = omega (arith, add-abs a b, short-wide a f)
 
+pub wide-fits : (z : ℤ) → Wide z → SFits w32 z
+wide-fits z f = omega (arith, mag-le z)
+
+-- the range −2,047 to 2,047, by the two tests
 pub range-tests : (z : ℤ) → ltZ (negsuc 2047) z && ltZ z (pos 2048) ≡ inRange z
 range-tests (pos n) = leb·suc-suc n 2047
 range-tests (negsuc n) = and-true (ltb n 2047)
-
-pub range-fits : (z : ℤ) → inRange z ≡ true → SFits w16 z
-range-fits z e = omega (arith, mag-le z, range-abs z e)

@@ -1,11 +1,11 @@
 -- The laws of squared distance. Every comparison of distances becomes a linear one over products by `gap-square`.
 -- Assumes nothing.
-use mathlib.Core.Path.{_≡_, refl, ap, _∙_}
+use mathlib.Core.Path.{_≡_, ap}
 use Prim.Native.Nat.{ℕ, _+_, _*_, _-_, _≤_, _<_}
 use native.Mathlib.Decide.{decLe}
 use native.Mathlib.Nat.{mul-le-mul}
 use native.Mathlib.Omega.{arith}
-use Rattle.raster.specs.Distance.{gap, apart, Clear, Near}
+use Rattle.raster.specs.Distance.{gap, apart}
 
 -- the gap of two numbers in order
 pub gap-up : (a b : ℕ) → a ≤ b → a + gap a b ≡ b
@@ -19,6 +19,19 @@ gap-swap a b = omega arith
 pub gap-self : (a : ℕ) → gap a a ≡ 0
 unfolding gap
 gap-self a = omega arith
+
+pub gap-zero : (a b : ℕ) → gap a b ≡ 0 → a ≡ b
+unfolding gap
+gap-zero a b e = omega arith
+
+-- one place nearer, from the left and from the right
+pub gap-left : (a b : ℕ) → a < b → gap a b ≡ gap (a + 1) b + 1
+unfolding gap
+gap-left a b h = omega arith
+
+pub gap-right : (a b : ℕ) → b ≤ a → gap (a + 1) b ≡ gap a b + 1
+unfolding gap
+gap-right a b h = omega arith
 
 -- the gap of two places of a line is shorter than the line
 pub gap-below : (a b n : ℕ) → a < n → b < n → gap a b < n

@@ -7,6 +7,7 @@ pub mod Vector
 pub mod Map
 pub mod Loop
 pub mod Refusal
+pub mod Gate
 pub mod Tests
 pub mod PixelsLaws
 pub mod DistanceLaws
@@ -15,3 +16,4 @@ pub mod LoopLaws
 pub mod VectorLaws
 pub mod SheetLaws
 pub mod RefusalLaws
+pub mod GateLaws

@@ -5,14 +5,14 @@ use mathlib.Core.Bool.{true, cond, _&&_, true≢false}
 use mathlib.Core.List.{List, _++_}
 use Prim.Native.Nat.{ℕ, _+_, _*_, _-_, _<_, _≤_}
 use native.Mathlib.Nat.{mul-le-mul-right}
-use native.Mathlib.Decide.{decLe, decLt}
+use native.Mathlib.Decide.{decLt}
 use native.Mathlib.Omega.{arith}
 use lib.Dec.{leb, ltb}
-use lib.ListN.{length, getD, take, drop, replicate, length-append, length-take, length-drop, length-replicate, getD-replicate, List·getD-append}
+use lib.ListN.{length, getD, take, drop, replicate, length-append, length-drop, length-replicate, getD-replicate, List·getD-append}
 use lib.Seq.{length-take-le, getD-take, getD-drop, getD-append-add}
-use borrow.Author.Tests.{ltb-true, leb-true, lt-ltb, le-ltb, le-leb, lt-leb}
-use Rattle.raster.specs.Pixels.{index, pixels}
-use Rattle.raster.specs.PixelsLaws.{index-inside, pixels-length, pixels-at, pixels-is}
+use borrow.Author.Tests.{ltb-true, leb-true, lt-ltb, le-leb}
+use Rattle.raster.specs.Pixels.{index}
+use Rattle.raster.specs.PixelsLaws.{pixels-length, pixels-at, pixels-is}
 use Rattle.raster.specs.Sheet.{spanned, covers, filled}
 use Rattle.raster.specs.Tests.{and-left, and-right, cond-ind}
 

@@ -2,10 +2,24 @@
 -- Assumes nothing.
 use mathlib.Core.Path.{_≡_}
 use mathlib.Core.Bool.{Bool, false, _&&_, _||_}
-use Prim.Native.Nat.{ℕ, _+_, _*_}
+use Prim.Native.Nat.{ℕ, _+_, _*_, _<_, _≤_}
 use lib.Dec.{eqb, ltb, leb}
 use lib.IntN.{ℤ, pos, negsuc, natAbs, _+ℤ_}
+use lib.Signed.{mag}
+use Rattle.raster.specs.Pixels.{Mask}
+use Rattle.raster.specs.Distance.{Copper}
 use Rattle.raster.specs.Limits.{maxReach}
+
+-- a component, −32,768 to 32,767
+abbrev pub Short : ℤ → Type 0
+Short z = mag z < 32768
+
+-- a component after one step, and a step: −1, 0 or 1
+abbrev pub Wide : ℤ → Type 0
+Wide z = natAbs z ≤ 32769
+
+abbrev pub Step : ℤ → Type 0
+Step z = natAbs z ≤ 1
 
 -- size, document 01's word for dx² + dy²
 unfoldable pub size : ℤ → ℤ → ℕ
@@ -36,3 +50,10 @@ replaces dx dy cx cy = unlabelled dx dy || ltb (size cx cy) (size dx dy)
 pub record Ends (x y : ℕ) (dx dy : ℤ) (i j : ℕ) : Type 0 where
   pub column : pos x +ℤ dx ≡ pos i
   pub row : pos y +ℤ dy ≡ pos j
+
+-- it ends on a copper pixel of the sheet
+pub record Target (copper : Mask) (w h x y : ℕ) (dx dy : ℤ) : Type 0 where
+  pub column : ℕ
+  pub row : ℕ
+  pub metal : Copper copper w h column row
+  pub ends : Ends x y dx dy column row

@@ -1,15 +1,17 @@
 -- The laws of vectors: how far a component reaches, and the link from a vector that ends at a pixel to squared distance. After it no proof
 -- speaks of signed numbers.
 -- Assumes nothing.
-use mathlib.Core.Path.{_≡_, refl, ap₂}
-use mathlib.Core.Bool.{Bool, true, false, cond}
-use Prim.Native.Nat.{ℕ, suc, _+_, _-_, _≤_}
+use mathlib.Core.Path.{_≡_, refl, ap}
+use mathlib.Core.Bool.{Bool, true, false, cond, _&&_, _||_, false≢true}
+use Prim.Native.Nat.{ℕ, suc, _+_, _-_, _≤_, _<_}
+use native.Mathlib.Nat.{mul-le-mul}
 use native.Mathlib.Omega.{arith}
 use lib.Dec.{ltb}
-use lib.IntN.{ℤ, pos, negsuc, natAbs, subℕ, _+ℤ_, +ℤ-idr, +ℤ-assoc, +ℤ-comm, pos-ne-negsuc}
-use borrow.Author.Tests.{ne-eqb, ltb-true, ltb-false, leb-true}
+use lib.IntN.{ℤ, pos, negsuc, natAbs, subℕ, _+ℤ_, +ℤ-idr, +ℤ-assoc, +ℤ-comm}
+use borrow.Author.Tests.{ne-eqb, eqb-true, lt-ltb, le-ltb, ltb-true, ltb-false, leb-true}
 use Rattle.raster.specs.Distance.{gap, apart}
-use Rattle.raster.specs.Vector.{size, inRange, unlabelled, Ends}
+use Rattle.raster.specs.Tests.{and-left, and-right}
+use Rattle.raster.specs.Vector.{size, isMark, inRange, unlabelled, replaces, Ends}
 
 -- ---- sums
 
@@ -36,6 +38,30 @@ pub range-labelled : (x y : ℤ) → inRange x ≡ true → unlabelled x y ≡ f
 range-labelled (pos n) y e = refl
 range-labelled (negsuc n) y e = rw (ne-eqb n 32767 (let h = range-abs (negsuc n) e in omega arith))
 
+-- ---- the mark
+
+mark-abs : (z : ℤ) → isMark z ≡ true → natAbs z ≡ 32768
+mark-abs (pos n) e = absurd (false≢true e)
+mark-abs (negsuc n) e = omega (arith, eqb-true n 32767 e)
+
+-- an unlabelled pixel's numbers have a larger size than any vector in the range, so that sizes alone say what replaces it
+pub in-range-replaces : (dx dy cx cy : ℤ) → (inRange cx && inRange cy) && ltb (size cx cy) (size dx dy) ≡ (inRange cx && inRange cy) && replaces dx dy cx cy
+unfolding replaces size
+in-range-replaces dx dy cx cy = go (inRange cx && inRange cy) (unlabelled dx dy) refl refl
+  where
+    far : inRange cx && inRange cy ≡ true → unlabelled dx dy ≡ true → size cx cy < size dx dy
+    far e u =
+        let a = range-abs cx (and-left (inRange cx) _ e) in
+        let b = range-abs cy (and-right (inRange cx) _ e) in
+        let x = mark-abs dx (and-left (isMark dx) _ u) in
+        let y = mark-abs dy (and-right (isMark dx) _ u) in
+        rw (x, y) (omega (arith, mul-le-mul a a, mul-le-mul b b))
+
+    go : (t u : Bool) → inRange cx && inRange cy ≡ t → unlabelled dx dy ≡ u → t && ltb (size cx cy) (size dx dy) ≡ t && (u || ltb (size cx cy) (size dx dy))
+    go false u e f = refl
+    go true false e f = refl
+    go true true e f = lt-ltb (size cx cy) (size dx dy) (far e f)
+
 -- ---- where a vector ends
 
 -- a component reaches as far as the two places lie apart
@@ -53,9 +79,16 @@ pub ends-size : {x y : ℕ} {dx dy : ℤ} {i j : ℕ} → Ends x y dx dy i j →
 unfolding size apart
 ends-size {x} {y} {dx} {dy} {i} {j} e = rw (reach x i dx (e .column), reach y j dy (e .row))
 
+-- one place back, and no place at all
+pub step-back : (k : ℕ) → pos (k + 1) +ℤ negsuc 0 ≡ pos k
+step-back k = simp (le-ltb (k + 1) 1 (omega arith)) (ap pos (omega arith))
+
+pub step-none : (k : ℕ) → pos k +ℤ pos 0 ≡ pos k
+step-none k = +ℤ-idr (pos k)
+
 -- no way at all ends where it starts
 pub ends-here : (x y : ℕ) → Ends x y (pos 0) (pos 0) x y
-ends-here x y = record { column = +ℤ-idr (pos x); row = +ℤ-idr (pos y) }
+ends-here x y = record { column = step-none x; row = step-none y }
 
 -- a neighbour's vector plus the neighbour's place less the pixel's ends where the neighbour's ends
 pub ends-step : {x y a b : ℕ} {ox oy dx dy : ℤ} {i j : ℕ} → Ends x y ox oy a b → Ends a b dx dy i j → Ends x y (dx +ℤ ox) (dy +ℤ oy) i j

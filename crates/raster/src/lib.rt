@@ -1,29 +1,27 @@
-// The leaves: what one vector says, and a pixel's place in a map.
+// The leaves: what a vector says, reading and writing it at a pixel of a map, and filling sheets and maps. A component is 16 bits wide in the
+// map and 32 bits wide in the hand, where no sum of it and a step overflows.
 ghost use mathlib.Core.Path.{_≡_};
-ghost use mathlib.Core.Bool.{true};
+ghost use mathlib.Core.Bool.{_&&_};
 ghost use Prim.Native.Nat.{_+_, _*_, _≤_};
 ghost use lib.IntN.{natAbs, _+ℤ_};
 ghost use lib.ListN.{length, replicate};
-ghost use Rattle.raster.specs.Vector.{size, mark, unlabelled, inRange, replaces};
+ghost use Rattle.raster.specs.Vector.{Short, Wide, Step, size, unlabelled, inRange, replaces};
 ghost use Rattle.raster.specs.Map.{Inside, dxAt, dyAt, put, unmapped, hasCopper};
 ghost use Rattle.raster.specs.Sheet.{bare, spanned, filled};
 
 pub const MARK: i16 = -32768;
 
-// How far a component reaches, without its sign. The widest, −32,768, has 32,768.
-pub fn magnitude(v: i16) -> u32
-    ensures { λ r. ⌜ r ≡ natAbs v ⌝ }
+// How far a number reaches, without its sign.
+pub fn magnitude(z: i32) -> u32
+    requires { ⌜ Wide z ⌝ }
+    ensures { λ r. ⌜ r ≡ natAbs z ⌝ }
 {
-    let wide = v as i32;
-    if wide < 0 {
-        (0 - wide) as u32
-    } else {
-        wide as u32
-    }
+    if z < 0 { (0 - z) as u32 } else { z as u32 }
 }
 
-// The square of the vector's length: at most 2³¹.
-pub fn size_of(dx: i16, dy: i16) -> u32
+// The square of the vector's length.
+pub fn size_of(dx: i32, dy: i32) -> u32
+    requires { ⌜ Wide dx × Wide dy ⌝ }
     ensures { λ r. ⌜ r ≡ size dx dy ⌝ }
 {
     let x = magnitude(dx);
@@ -32,17 +30,18 @@ pub fn size_of(dx: i16, dy: i16) -> u32
 }
 
 // Both components hold the mark.
-pub fn is_unlabelled(dx: i16, dy: i16) -> bool
+pub fn is_unlabelled(dx: i32, dy: i32) -> bool
     ensures { λ r. ⌜ r ≡ unlabelled dx dy ⌝ }
 {
-    (dx == MARK) & (dy == MARK)
+    (dx == -32768) & (dy == -32768)
 }
 
-// A component of a neighbour's vector, seen from the pixel: in 32 bits, where no sum of two overflows.
-pub fn shifted(v: i16, o: i16) -> i32
-    ensures { λ r. ⌜ r ≡ v +ℤ o ⌝ }
+// A component of a neighbour's vector, seen from the pixel.
+pub fn shifted(v: i32, o: i32) -> i32
+    requires { ⌜ Short v × Step o ⌝ }
+    ensures { λ r. ⌜ (r ≡ v +ℤ o) × Wide r ⌝ }
 {
-    (v as i32) + (o as i32)
+    v + o
 }
 
 // −2,047 to 2,047.
@@ -52,43 +51,38 @@ pub fn in_range(z: i32) -> bool
     (-2048 < z) & (z < 2048)
 }
 
-// Such a number in 16 bits.
-pub fn narrow(z: i32) -> i16
-    requires { ⌜ inRange z ≡ true ⌝ }
-    ensures { λ r. ⌜ r ≡ z ⌝ }
+// The candidate (cx, cy) is in the range and replaces (dx, dy). The mark's size is above that of every vector in the range, so that one
+// comparison of sizes serves an unlabelled pixel too.
+pub fn takes_over(dx: i32, dy: i32, cx: i32, cy: i32) -> bool
+    requires { ⌜ (Short dx × Short dy) × (Wide cx × Wide cy) ⌝ }
+    ensures { λ r. ⌜ r ≡ (inRange cx && inRange cy) && replaces dx dy cx cy ⌝ }
 {
-    z as i16
-}
-
-// The vector (cx, cy) replaces (dx, dy): that is unlabelled, or larger.
-pub fn takes_over(dx: i16, dy: i16, cx: i16, cy: i16) -> bool
-    ensures { λ r. ⌜ r ≡ replaces dx dy cx cy ⌝ }
-{
-    is_unlabelled(dx, dy) | (size_of(cx, cy) < size_of(dx, dy))
+    (in_range(cx) & in_range(cy)) & (size_of(cx, cy) < size_of(dx, dy))
 }
 
 // The two components at pixel p.
-pub fn dx_at(map: &[i16], p: usize) -> i16
+pub fn dx_at(map: &[i16], p: usize) -> i32
     requires { ⌜ Inside p (now map) ⌝ }
-    ensures { λ r. ⌜ r ≡ dxAt (now (map .entry)) p ⌝ }
+    ensures { λ r. ⌜ (r ≡ dxAt (now (map .entry)) p) × Short r ⌝ }
 {
-    map[2 * p]
+    map[2 * p] as i32
 }
 
-pub fn dy_at(map: &[i16], p: usize) -> i16
+pub fn dy_at(map: &[i16], p: usize) -> i32
     requires { ⌜ Inside p (now map) ⌝ }
-    ensures { λ r. ⌜ r ≡ dyAt (now (map .entry)) p ⌝ }
+    ensures { λ r. ⌜ (r ≡ dyAt (now (map .entry)) p) × Short r ⌝ }
 {
-    map[2 * p + 1]
+    map[2 * p + 1] as i32
 }
 
 // Writes the vector (dx, dy) at pixel p.
-pub fn put_at(map: &mut [i16], p: usize, dx: i16, dy: i16)
+pub fn put_at(map: &mut [i16], p: usize, dx: i32, dy: i32)
     requires { ⌜ Inside p (now map) ⌝ }
+    requires { ⌜ Short dx × Short dy ⌝ }
     ensures { λ _. ⌜ now (map .exit) ≡ put p dx dy (now (map .entry)) ⌝ }
 {
-    map[2 * p] = dx;
-    map[2 * p + 1] = dy;
+    map[2 * p] = dx as i16;
+    map[2 * p + 1] = dy as i16;
 }
 
 // Every component at the mark: no pixel has a vector.

@@ -1,6 +1,9 @@
 //! Document 01 as a plain model, written from the paper and not from the library's code. The tests compare the two.
 
+pub mod boards;
+pub mod nearest;
 pub mod random;
+pub mod scans;
 
 /// Radius and pitch in micrometres to the answer number and q, by bisection and with no division.
 pub fn radius(r: u32, p: u32) -> (u32, u32) {

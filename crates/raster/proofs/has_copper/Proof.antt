@@ -1,19 +1,18 @@
 -- `raster::has_copper` meets its contract. The invariant: the flag says whether some pixel below p has size 0.
 -- Assumes nothing.
-use mathlib.Core.Path.{_≡_, refl, ap, ap₂, _∙_}
+use mathlib.Core.Path.{_≡_, refl, ap₂}
 use mathlib.Core.Bool.{Bool, _||_}
-use Prim.Native.Nat.{ℕ, _+_, _-_, _≤_}
+use Prim.Native.Nat.{ℕ, _-_, _≤_}
 use native.Mathlib.Numerals.{add-one}
 use native.Mathlib.Omega.{arith}
 use lib.Dec.{eqb}
-use lib.ListN.{length}
-use mir.Syntax.{w16}
+use mir.Syntax.{w32}
 use mir.Val.{SFits}
 use mir.ValLaws.{toZ-ofZ}
 use borrow.Author.Needs.{needs}
 use Rattle.raster.specs.Loop.{some}
-use Rattle.raster.specs.Map.{hasCopper, dxAt, dyAt}
-use Rattle.raster.specs.Vector.{size}
+use Rattle.raster.specs.Map.{hasCopper}
+use Rattle.raster.proofs.Signed.{short-wide}
 use Rattle.raster.proofs.has_copper.Statement.{statement}
 use Rattle.raster.proofs.has_copper.Tie as tie
 
@@ -27,13 +26,22 @@ loop-holds : tie.Need-loop-holds Inv-loop μ-loop
 unfolding hasCopper some
 loop-holds c = (refl, search needs)
 
+dx-fits : (c : tie.After-dy-at Inv-loop μ-loop) → SFits w32 (c .before .dx-at .result)
+dx-fits c = record { sfits = c .before .dx-at .ok }
+
+dy-fits : (c : tie.After-dy-at Inv-loop μ-loop) → SFits w32 (c .dy-at .result)
+dy-fits c = record { sfits = c .dy-at .ok }
+
+size-of-requires : tie.Need-size-of-requires Inv-loop μ-loop
+size-of-requires c κs =
+    simp (toZ-ofZ, dx-fits c, dy-fits c)
+    (omega (arith, short-wide (c .before .dx-at .result) (c .before .dx-at .ensures .1)), omega (arith, short-wide (c .dy-at .result) (c .dy-at .ensures .1)))
+
 loop-again : tie.Need-loop-again Inv-loop μ-loop
 unfolding hasCopper some
 loop-again c =
     let l = c .before .before .before .before in
-    let f : SFits w16 (c .before .before .dx-at .result) = record { sfits = c .before .before .dx-at .ok } in
-    let g : SFits w16 (c .before .dy-at .result) = record { sfits = c .before .dy-at .ok } in
-    let e = simp (c .before .before .dx-at .ensures, c .before .dy-at .ensures) at (simp (toZ-ofZ, f, g) at (c .size-of .ensures)) in
+    let e = simp (c .before .before .dx-at .ensures .0, c .before .dy-at .ensures .0) at (simp (toZ-ofZ, dx-fits (c .before), dy-fits (c .before)) at (c .size-of .ensures)) in
     (rw add-one (ap₂ (λ (a : ℕ) (b : Bool). eqb a 0 || b) e (l .loop .inv .0)), omega arith)
 
 returns : tie.Need-returns Inv-loop μ-loop
@@ -51,7 +59,7 @@ has-copper-spec =
     loop-holds
     (λ c κs. omega arith)
     (λ c κs. omega arith)
-    (λ c κs. search needs)
+    size-of-requires
     (λ c. omega arith)
     (λ c. omega arith)
     loop-again

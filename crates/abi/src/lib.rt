@@ -1,0 +1,14 @@
+// The library's calls, exported for the comparison with Rust and the benchmark.
+ghost use mathlib.Core.Path.{_≡_};
+ghost use Prim.Native.Nat.{_*_, _<_};
+ghost use lib.ListN.{length};
+ghost use Rattle.scan.specs.Scan.{state, scanned};
+
+// The map by 8SED (`corners`) or 4SED; true if a candidate left the range of ±2,047.
+#[no_mangle]
+pub extern "C" fn abi_scan(sheet: &[u8], map: &mut [i16], w: usize, h: usize, corners: bool) -> bool
+    requires { ⌜ (0 < w) × ((length (now sheet) ≡ h * w) × (length (now map) ≡ 2 * (h * w))) ⌝ }
+    ensures { λ r. ⌜ state (now (map .exit)) r ≡ scanned w corners h (now (sheet .entry)) ⌝ }
+{
+    scan::scan(sheet, map, w, h, corners)
+}

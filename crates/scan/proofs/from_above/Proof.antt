@@ -1,0 +1,22 @@
+-- `scan::from_above` meets its contract: the code's test is the definition's, and where it holds `from_row` does the rest.
+-- Assumes nothing.
+use Prim.Native.Nat.{_-_, _≤_}
+use native.Mathlib.Nat.{mul-le-mul-right}
+use native.Mathlib.Omega.{arith}
+use borrow.Author.Needs.{needs}
+use borrow.Author.Tests.{lt-ltb, le-ltb}
+use Rattle.scan.proofs.from_above.Statement.{statement}
+use Rattle.scan.proofs.from_above.Tie as tie
+
+from-row-requires : tie.Need-from-row-requires
+from-row-requires c κs =
+    let a = c .before .before .args in
+    let h : a .y - 1 ≤ a .y = omega arith in
+    ((search needs, omega (arith, mul-le-mul-right (a .w) h)), search needs)
+
+returns : tie.Need-returns
+returns c = rw (lt-ltb _ _ (c .before .before .before .if1 .taken)) (c .before .from-row .ensures)
+
+pub from-above-spec : {M : Type 1} → statement M
+from-above-spec =
+    tie.close (tie.spec (λ c. search needs) from-row-requires (λ c. search needs) returns (λ c. rw (le-ltb _ _ (c .if1 .left))))

@@ -1,0 +1,3 @@
+pub mod Candidate
+pub mod Scan
+pub mod Holding

@@ -1,0 +1,12 @@
+//! Links the archive that `rt staticlib abi` writes.
+
+use std::path::Path;
+
+fn main() {
+    let folder = Path::new(env!("CARGO_MANIFEST_DIR")).join("../../target/staticlib");
+    let archive = folder.join("libabi.a");
+    assert!(archive.exists(), "{} is missing: run `rt staticlib abi` first", archive.display());
+    println!("cargo:rerun-if-changed={}", archive.display());
+    println!("cargo:rustc-link-search=native={}", folder.display());
+    println!("cargo:rustc-link-lib=static=abi");
+}

@@ -1,0 +1,225 @@
+//! The library's scans beside the model's, to the number, and beside the true distances, on many thousand sheets.
+
+use model::boards::{self, Board};
+use model::nearest;
+use model::random::Random;
+use model::scans::{self, UNLABELLED};
+
+fn size([dx, dy]: [i16; 2]) -> u64 {
+    let (dx, dy) = (i64::from(dx), i64::from(dy));
+    (dx * dx + dy * dy) as u64
+}
+
+/// A number from `low` to `high`.
+fn between(low: usize, high: usize, random: &mut Random) -> usize {
+    low + random.below((high - low + 1) as u64) as usize
+}
+
+/// What a map may hold before: anything, and the numbers with a meaning more often.
+fn old(random: &mut Random) -> i16 {
+    match random.below(4) {
+        0 => 0,
+        1 => -32_768,
+        _ => random.next() as i16,
+    }
+}
+
+/// The library's map and answer. Sheet and map are lent as parts of larger slices that hold anything; the rest must stay as it was.
+fn lent(board: &Board, corners: bool, random: &mut Random) -> (Vec<[i16; 2]>, bool) {
+    let (w, h, pixels) = (board.w, board.h, board.sheet.len());
+    let margin = 2 * w + 9;
+    let mut sheet: Vec<u8> = (0..pixels + 2 * margin).map(|_| random.next() as u8).collect();
+    sheet[margin..][..pixels].copy_from_slice(&board.sheet);
+    let mut map: Vec<i16> = (0..2 * pixels + 2 * margin).map(|_| old(random)).collect();
+    let (sheet_before, map_before) = (sheet.clone(), map.clone());
+    let answer = abi::scan(&sheet[margin..][..pixels], &mut map[margin..][..2 * pixels], w, h, corners);
+    assert!(sheet == sheet_before, "the sheet was written: {board:?}");
+    assert_eq!(map[..margin], map_before[..margin], "written before the map: {board:?}");
+    assert_eq!(map[margin + 2 * pixels..], map_before[margin + 2 * pixels..], "written after the map: {board:?}");
+    let written = map[margin..][..2 * pixels].chunks(2).map(|pixel| [pixel[0], pixel[1]]).collect();
+    (written, answer)
+}
+
+/// The true squared distances: by brute force on small sheets, and the faster way on others.
+fn distances(board: &Board) -> Vec<Option<u64>> {
+    let &Board { w, h, ref sheet } = board;
+    if w * h <= 144 {
+        (0..w * h).map(|at| nearest::squared(sheet, w, h, at % w, at / w)).collect()
+    } else {
+        nearest::all(sheet, w, h)
+    }
+}
+
+/// All that is to be seen of both scans on a board.
+fn check(board: &Board, random: &mut Random) {
+    let &Board { w, h, ref sheet } = board;
+    let distances = distances(board);
+    for corners in [false, true] {
+        let (map, answer) = lent(board, corners, random);
+        assert!(!answer, "outside ±2,047, corners {corners}: {board:?}");
+        let expected = scans::scan(sheet, w, h, corners);
+        for at in 0..w * h {
+            let (x, y, found) = (at % w, at / w, map[at]);
+            let place = || format!("pixel ({x}, {y}), corners {corners}: {board:?}");
+            assert_eq!(found, expected[at], "{}", place());
+            let Some(e) = distances[at] else {
+                assert_eq!(found, UNLABELLED, "{}", place());
+                continue;
+            };
+            assert_ne!(found, UNLABELLED, "{}", place());
+            let end = (x as i64 + i64::from(found[0]), y as i64 + i64::from(found[1]));
+            assert!((0..w as i64).contains(&end.0) && (0..h as i64).contains(&end.1), "leads off the sheet, {}", place());
+            assert_ne!(sheet[end.1 as usize * w + end.0 as usize], 0, "leads to no copper, {}", place());
+            let a = size(found);
+            assert!(a >= e, "size {a} below {e}, {}", place());
+            assert!(if corners { 144 * a <= 169 * e } else { a <= 2 * e }, "size {a} for {e}, {}", place());
+            assert_eq!(a == 0, sheet[at] != 0, "{}", place());
+        }
+    }
+}
+
+/// Copper anywhere: none, everywhere, a few pixels, a few in a thousand, or any part.
+fn scattered(w: usize, h: usize, random: &mut Random) -> Board {
+    let per_mille = match random.below(8) {
+        0 => [0, 1_000, 999][random.below(3) as usize],
+        1 | 2 => random.below(1_001),
+        3 | 4 => random.below(80),
+        _ => {
+            let mut board = Board::bare(w, h);
+            for _ in 0..1 + random.below(5) {
+                board.sheet[random.below((w * h) as u64) as usize] = 1 + random.below(255) as u8;
+            }
+            return board;
+        }
+    };
+    boards::random(w, h, per_mille, random)
+}
+
+#[test]
+fn small() {
+    let mut random = Random::new(11);
+    for _ in 0..30_000 {
+        let (w, h) = (between(1, 12, &mut random), between(1, 12, &mut random));
+        check(&scattered(w, h, &mut random), &mut random);
+    }
+}
+
+/// Every sheet of up to twelve pixels.
+#[test]
+fn all_tiny() {
+    let mut random = Random::new(12);
+    for w in 1..=12 {
+        for h in 1..=12 / w {
+            for copper in 0..1_u32 << (w * h) {
+                let sheet = (0..w * h).map(|at| (copper >> at & 1) as u8).collect();
+                check(&Board { w, h, sheet }, &mut random);
+            }
+        }
+    }
+}
+
+#[test]
+fn lines() {
+    let mut random = Random::new(13);
+    for turn in 0..200 {
+        let n = if turn < 20 { 2_048 } else { between(1, 2_048, &mut random) };
+        check(&scattered(n, 1, &mut random), &mut random);
+        check(&scattered(1, n, &mut random), &mut random);
+    }
+}
+
+#[test]
+fn medium() {
+    let mut random = Random::new(14);
+    for turn in 0..400 {
+        let (w, h) = (between(2, 64, &mut random), between(2, 64, &mut random));
+        let board = if turn % 4 == 0 { boards::tracks(w, h, &mut random) } else { scattered(w, h, &mut random) };
+        check(&board, &mut random);
+    }
+}
+
+#[test]
+fn large() {
+    let mut random = Random::new(15);
+    check(&boards::tracks(300, 200, &mut random), &mut random);
+    check(&boards::random(200, 300, 5, &mut random), &mut random);
+    check(&boards::one_pixel(256, 256), &mut random);
+}
+
+/// On the largest sheet a single copper pixel is where every vector leads, up to ±2,047 away.
+#[test]
+fn largest() {
+    let mut random = Random::new(16);
+    for (corners, (column, row)) in [(true, (0, 2_047)), (true, (2_047, 0)), (false, (0, 0)), (false, (2_047, 2_047))] {
+        let (map, answer) = lent(&Board::with(2_048, 2_048, &[(column, row)]), corners, &mut random);
+        assert!(!answer);
+        for (at, &found) in map.iter().enumerate() {
+            let way = [column as i16 - (at % 2_048) as i16, row as i16 - (at / 2_048) as i16];
+            assert_eq!(found, way, "pixel {at}, copper ({column}, {row})");
+        }
+    }
+}
+
+/// A side of 2,049 is the first on which a vector can leave ±2,047.
+#[test]
+fn outside() {
+    let mut random = Random::new(17);
+    for corners in [false, true] {
+        for (at, expected) in [(0, true), (1, false), (2_047, false), (2_048, true)] {
+            assert_eq!(lent(&Board::with(2_049, 1, &[(at, 0)]), corners, &mut random).1, expected, "row, copper at {at}");
+            assert_eq!(lent(&Board::with(1, 2_049, &[(0, at)]), corners, &mut random).1, expected, "column, copper at {at}");
+        }
+    }
+}
+
+#[test]
+fn boards_of_document_01() {
+    let mut random = Random::new(18);
+    let m1 = boards::document_01();
+    check(&m1, &mut random);
+    assert_eq!(lent(&m1, false, &mut random).0[0], [3, 0]);
+    assert_eq!(size(lent(&m1, true, &mut random).0[0]), 8);
+    let m5 = Board::with(3, 1, &[(0, 0)]);
+    for corners in [false, true] {
+        assert_eq!(lent(&m5, corners, &mut random).0, [[0, 0], [-1, 0], [-2, 0]]);
+    }
+}
+
+#[test]
+fn arrow_head() {
+    let mut random = Random::new(19);
+    let board = boards::arrow_head();
+    check(&board, &mut random);
+    let at = 10 * board.w + 3;
+    assert_eq!(size(lent(&board, true, &mut random).0[at]), 485);
+    assert_eq!(distances(&board)[at], Some(481));
+}
+
+#[test]
+fn no_rows() {
+    assert!(!abi::scan(&[], &mut [], 5, 0, true));
+}
+
+#[test]
+#[should_panic(expected = "without columns")]
+fn no_columns() {
+    abi::scan(&[], &mut [], 0, 5, true);
+}
+
+#[test]
+#[should_panic(expected = "the sheet is not 3 × 2")]
+fn short_sheet() {
+    abi::scan(&[0; 5], &mut [0; 12], 3, 2, true);
+}
+
+#[test]
+#[should_panic(expected = "the map is not 2 × 3 × 2")]
+fn short_map() {
+    abi::scan(&[0; 6], &mut [0; 11], 3, 2, true);
+}
+
+#[test]
+#[should_panic(expected = "the sheet is not")]
+fn sides_that_wrap() {
+    abi::scan(&[], &mut [], 1 << 32, usize::MAX / 2 + 1, true);
+}
