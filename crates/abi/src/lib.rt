@@ -1,7 +1,9 @@
 // The library's calls, exported for the comparison with Rust and the benchmark.
 ghost use mathlib.Core.Path.{_≡_};
-ghost use Prim.Native.Nat.{_*_, _<_};
+ghost use Prim.Native.Nat.{_*_, _<_, _≤_};
 ghost use lib.ListN.{length};
+ghost use Rattle.raster.specs.Sheet.{copperOf};
+ghost use Rattle.exact.specs.Nearest.{exactMap, cleared};
 ghost use Rattle.scan.specs.Scan.{state, scanned};
 
 // The map by 8SED (`corners`) or 4SED; true if a candidate left the range of ±2,047.
@@ -11,4 +13,15 @@ pub extern "C" fn abi_scan(sheet: &[u8], map: &mut [i16], w: usize, h: usize, co
     ensures { λ r. ⌜ state (now (map .exit)) r ≡ scanned w corners h (now (sheet .entry)) ⌝ }
 {
     scan::scan(sheet, map, w, h, corners)
+}
+
+// The exact map; scratch's first w × h numbers end at 0.
+#[no_mangle]
+pub extern "C" fn abi_exact(sheet: &[u8], map: &mut [i16], scratch: &mut [i16], w: usize, h: usize)
+    requires { ⌜ (w ≤ 2048) × (h ≤ 2048) ⌝ }
+    requires { ⌜ (length (now sheet) ≡ h * w) × ((length (now map) ≡ 2 * (h * w)) × (h * w ≤ length (now scratch))) ⌝ }
+    ensures { λ _. ⌜ now (map .exit) ≡ exactMap (copperOf (now (sheet .entry)) w) w h ⌝ }
+    ensures { λ _. ⌜ now (scratch .exit) ≡ cleared (h * w) (now (scratch .entry)) ⌝ }
+{
+    exact::exact(sheet, map, scratch, w, h);
 }

@@ -33,6 +33,20 @@ index-one w x y i j a b e =
 pub index-back : (w p : ℕ) → index w (p % w) (p / w) ≡ p
 index-back w p = div-add-mod' p w
 
+module _ (w h p : ℕ) (inside : p < h * w) where
+  some-width : 0 < w
+  some-width = go w inside
+    where
+      go : (v : ℕ) → p < h * v → 0 < v
+      go zero l = omega arith
+      go (suc v) l = omega arith
+
+  pub back-across : p % w < w
+  back-across = mod-lt p some-width
+
+  pub back-down : p / w < h
+  back-down = div-lt-iff-lt-mul some-width .1 inside
+
 -- ---- what a list given by its elements holds
 
 module _ {A : Type 0} where
@@ -65,11 +79,4 @@ module _ {A : Type 0} where
     -- a list that has f x y at every pixel is the list of f
     pub pixels-is : (s : List A) (d : A) → length s ≡ h * w → ((x y : ℕ) → x < w → y < h → getD s (index w x y) d ≡ f x y) → s ≡ pixels w h f
     unfolding pixels
-    pixels-is s d l e = tabulate-is (h * w) _ s d l (λ i k. rw (index-back w i) at (e (i % w) (i / w) (mod-lt i (wide i k)) (div-lt-iff-lt-mul (wide i k) .1 k)))
-      where
-        wide : (i : ℕ) → i < h * w → 0 < w
-        wide i k = go w k
-          where
-            go : (v : ℕ) → i < h * v → 0 < v
-            go zero g = omega arith
-            go (suc v) g = omega arith
+    pixels-is s d l e = tabulate-is (h * w) _ s d l (λ i k. rw (index-back w i) at (e (i % w) (i / w) (back-across w h i k) (back-down w h i k)))

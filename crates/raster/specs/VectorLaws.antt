@@ -1,17 +1,20 @@
 -- The laws of vectors: how far a component reaches, and the link from a vector that ends at a pixel to squared distance. After it no proof
 -- speaks of signed numbers.
 -- Assumes nothing.
-use mathlib.Core.Path.{_≡_, refl, ap}
+use mathlib.Core.Path.{_≡_, refl, sym, ap, _∙_}
 use mathlib.Core.Bool.{Bool, true, false, cond, _&&_, _||_, false≢true}
 use Prim.Native.Nat.{ℕ, suc, _+_, _-_, _≤_, _<_}
 use native.Mathlib.Nat.{mul-le-mul}
 use native.Mathlib.Omega.{arith}
 use lib.Dec.{ltb}
-use lib.IntN.{ℤ, pos, negsuc, natAbs, subℕ, _+ℤ_, +ℤ-idr, +ℤ-assoc, +ℤ-comm}
-use borrow.Author.Tests.{ne-eqb, eqb-true, lt-ltb, le-ltb, ltb-true, ltb-false, leb-true}
+use lib.IntN.{ℤ, pos, negsuc, natAbs, subℕ, negℤ, _+ℤ_, _-ℤ_, +ℤ-idl, +ℤ-idr, +ℤ-assoc, +ℤ-comm, +ℤ-invr, negℤ-+ℤ, +ℤ-negℤ-cancel, -ℤ-+ℤ-cancel}
+use borrow.Author.Tests.{ne-eqb, eqb-true, le-leb, lt-ltb, le-ltb, ltb-true, ltb-false, leb-true}
+use Rattle.raster.specs.Limits.{maxSide}
+use Rattle.raster.specs.Pixels.{Mask}
 use Rattle.raster.specs.Distance.{gap, apart}
+use Rattle.raster.specs.DistanceLaws.{gap-below}
 use Rattle.raster.specs.Tests.{and-left, and-right}
-use Rattle.raster.specs.Vector.{size, isMark, inRange, unlabelled, replaces, Ends}
+use Rattle.raster.specs.Vector.{size, isMark, inRange, unlabelled, replaces, Ends, Target}
 
 -- ---- sums
 
@@ -40,9 +43,14 @@ range-labelled (negsuc n) y e = rw (ne-eqb n 32767 (let h = range-abs (negsuc n)
 
 -- ---- the mark
 
-mark-abs : (z : ℤ) → isMark z ≡ true → natAbs z ≡ 32768
+pub mark-abs : (z : ℤ) → isMark z ≡ true → natAbs z ≡ 32768
 mark-abs (pos n) e = absurd (false≢true e)
 mark-abs (negsuc n) e = omega (arith, eqb-true n 32767 e)
+
+-- an unlabelled pixel's numbers have the size 2³¹
+pub unlabelled-size : (dx dy : ℤ) → unlabelled dx dy ≡ true → size dx dy ≡ 2147483648
+unfolding size
+unlabelled-size dx dy u = rw (mark-abs dx (and-left (isMark dx) _ u), mark-abs dy (and-right (isMark dx) _ u))
 
 -- an unlabelled pixel's numbers have a larger size than any vector in the range, so that sizes alone say what replaces it
 pub in-range-replaces : (dx dy cx cy : ℤ) → (inRange cx && inRange cy) && ltb (size cx cy) (size dx dy) ≡ (inRange cx && inRange cy) && replaces dx dy cx cy
@@ -97,3 +105,35 @@ ends-step {x} {y} {a} {b} {ox} {oy} {dx} {dy} {i} {j} o e =
   where
     along : (x a i : ℕ) (o d : ℤ) → pos x +ℤ o ≡ pos a → pos a +ℤ d ≡ pos i → pos x +ℤ (d +ℤ o) ≡ pos i
     along x a i o d p q = rw (+ℤ-comm d o, ← +ℤ-assoc (pos x) o d, p) q
+
+-- ---- the way from one place to another
+
+pub way-ends : (x i : ℕ) → pos x +ℤ (pos i -ℤ pos x) ≡ pos i
+way-ends x i = +ℤ-comm (pos x) (pos i -ℤ pos x) ∙ -ℤ-+ℤ-cancel (pos i) (pos x)
+
+pub way-back : (y n : ℕ) → n ≤ y → negℤ (pos n) ≡ pos (y - n) -ℤ pos y
+way-back y n l =
+    let a = pos (y - n) in
+    let e : y ≡ y - n + n = omega arith in
+    sym
+    (ap (λ (t : ℕ). a -ℤ pos t) e
+    ∙ ap (λ (t : ℤ). a +ℤ t) (negℤ-+ℤ a (pos n))
+    ∙ sym (+ℤ-assoc a (negℤ a) (negℤ (pos n)))
+    ∙ ap (λ (t : ℤ). t +ℤ negℤ (pos n)) (+ℤ-invr a)
+    ∙ +ℤ-idl (negℤ (pos n)))
+
+pub way-on : (y m : ℕ) → pos m ≡ pos (y + m) -ℤ pos y
+way-on y m =
+    let e : m + y ≡ y + m = omega arith in
+    sym (+ℤ-negℤ-cancel (pos m) (pos y)) ∙ ap (λ (t : ℕ). pos t -ℤ pos y) e
+
+-- a vector that ends on a sheet of document 01's sides is in the range
+pub target-range : (copper : Mask) (w h x y : ℕ) (dx dy : ℤ) → w ≤ maxSide → h ≤ maxSide → x < w → y < h → Target copper w h x y dx dy → inRange dx && inRange dy ≡ true
+target-range copper w h x y dx dy wide tall a b t =
+    simp (
+      range dx (t .column) x w wide a (t .metal .across) (reach x (t .column) dx (t .ends .column)),
+      range dy (t .row) y h tall b (t .metal .down) (reach y (t .row) dy (t .ends .row)),
+    )
+  where
+    range : (d : ℤ) (i x n : ℕ) → n ≤ maxSide → x < n → i < n → natAbs d ≡ gap x i → inRange d ≡ true
+    range d i x n l a b e = le-leb (natAbs d) 2047 (omega (arith, gap-below x i n a b))

@@ -6,7 +6,7 @@ ghost use Prim.Native.Nat.{_+_, _*_, _≤_};
 ghost use lib.IntN.{natAbs, _+ℤ_};
 ghost use lib.ListN.{length, replicate};
 ghost use Rattle.raster.specs.Vector.{Short, Wide, Step, size, unlabelled, inRange, replaces};
-ghost use Rattle.raster.specs.Map.{Inside, dxAt, dyAt, put, unmapped, hasCopper};
+ghost use Rattle.raster.specs.Map.{Inside, dxAt, dyAt, sizeAt, put, unmapped, hasCopper};
 ghost use Rattle.raster.specs.Sheet.{bare, spanned, filled};
 
 pub const MARK: i16 = -32768;
@@ -75,6 +75,14 @@ pub fn dy_at(map: &[i16], p: usize) -> i32
     map[2 * p + 1] as i32
 }
 
+// The size at pixel p.
+pub fn size_at(map: &[i16], p: usize) -> u32
+    requires { ⌜ Inside p (now map) ⌝ }
+    ensures { λ r. ⌜ r ≡ sizeAt (now (map .entry)) p ⌝ }
+{
+    size_of(dx_at(map, p), dy_at(map, p))
+}
+
 // Writes the vector (dx, dy) at pixel p.
 pub fn put_at(map: &mut [i16], p: usize, dx: i32, dy: i32)
     requires { ⌜ Inside p (now map) ⌝ }
@@ -101,7 +109,7 @@ pub fn has_copper(map: &[i16], n: usize) -> bool
 {
     let mut found = false;
     for p in 0..n {
-        found = (size_of(dx_at(map, p), dy_at(map, p)) == 0) | found;
+        found = (size_at(map, p) == 0) | found;
     }
     found
 }

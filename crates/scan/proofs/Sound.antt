@@ -6,16 +6,14 @@ use mathlib.Core.List.{List}
 use Prim.Native.Nat.{ℕ, _+_, _*_, _≤_, _<_}
 use native.Mathlib.Decide.{ℕ-discrete}
 use native.Mathlib.Omega.{arith}
-use lib.IntN.{ℤ, natAbs, _+ℤ_}
+use lib.IntN.{ℤ, _+ℤ_}
 use lib.ListN.{length}
-use borrow.Author.Tests.{le-leb, not-true}
+use borrow.Author.Tests.{not-true}
 use Rattle.raster.specs.Limits.{maxSide}
 use Rattle.raster.specs.Pixels.{Mask, index}
 use Rattle.raster.specs.PixelsLaws.{index-inside, index-one}
-use Rattle.raster.specs.Distance.{gap}
-use Rattle.raster.specs.DistanceLaws.{gap-below}
-use Rattle.raster.specs.Vector.{unlabelled, inRange, replaces, Ends, Target}
-use Rattle.raster.specs.VectorLaws.{reach, ends-step}
+use Rattle.raster.specs.Vector.{unlabelled, replaces, Ends, Target}
+use Rattle.raster.specs.VectorLaws.{ends-step, target-range}
 use Rattle.raster.specs.Map.{Inside, dxAt, dyAt, put}
 use Rattle.raster.specs.MapLaws.{put-length, put-dx, put-dy, put-dx-other, put-dy-other}
 use Rattle.raster.specs.Tests.{and-left, and-right, cond-ind}
@@ -47,17 +45,6 @@ module _ (copper : Mask) (w h : ℕ) where
     pub step : Ends x y ox oy a b
 
   module _ (wide : w ≤ maxSide) (tall : h ≤ maxSide) where
-    -- a vector that ends on the sheet is in the range
-    target-range : (x y : ℕ) (dx dy : ℤ) → x < w → y < h → Target copper w h x y dx dy → inRange dx && inRange dy ≡ true
-    target-range x y dx dy a b t =
-        simp (
-          range dx (t .column) x w wide a (t .metal .across) (reach x (t .column) dx (t .ends .column)),
-          range dy (t .row) y h tall b (t .metal .down) (reach y (t .row) dy (t .ends .row)),
-        )
-      where
-        range : (d : ℤ) (i x n : ℕ) → n ≤ maxSide → x < n → i < n → natAbs d ≡ gap x i → inRange d ≡ true
-        range d i x n l a b e = le-leb (natAbs d) 2047 (omega (arith, gap-below x i n a b))
-
     module _ (m : List ℤ) (sound : Sound m) (x y a b : ℕ) (ox oy : ℤ) (hop : Hop x y a b ox oy) where
       abbrev nx : ℤ
       nx = dxAt m (index w a b)
@@ -76,7 +63,7 @@ module _ (copper : Mask) (w h : ℕ) where
 
       -- so it is allowed
       pub candidate-allowed : unlabelled nx ny ≡ false → allowed nx ny ox oy ≡ true
-      candidate-allowed l = target-range x y _ _ (hop .across) (hop .down) (moved l)
+      candidate-allowed l = target-range copper w h x y (nx +ℤ ox) (ny +ℤ oy) wide tall (hop .across) (hop .down) (moved l)
 
       pub never-over : overs nx ny ox oy ≡ false
       unfolding overs

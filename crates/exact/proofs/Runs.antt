@@ -1,0 +1,133 @@
+-- The runs of a row: how one starts, one pixel more, how one ends, and two that meet.
+-- Assumes nothing.
+use mathlib.Core.Path.{_≡_, refl, sym, _∙_}
+use mathlib.Core.Logic.{_≢_}
+use mathlib.Core.List.{List}
+use Prim.Native.Nat.{ℕ, _+_, _-_, _<_, _≤_}
+use native.Mathlib.Decide.{decLt, ℕ-discrete}
+use native.Mathlib.Omega.{arith}
+use lib.IntN.{ℤ, pos, _-ℤ_}
+use lib.ListN.{getD}
+use borrow.Author.Tests.{ne-eqb}
+use Rattle.raster.specs.Map.{Inside, dxAt, dyAt, put}
+use Rattle.raster.specs.MapLaws.{put-length, put-dx, put-dy, put-dx-other, put-dy-other}
+use Rattle.envelope.specs.Stack.{holder}
+use Rattle.envelope.proofs.StackLaws.{holder-none, holder-top, holder-under}
+use Rattle.exact.specs.Ways.{across, along, Written}
+
+-- a column below 2,048 is one, not none
+module _ (s : ℕ) (few : s < 2048) where
+  pub across-site : (x : ℕ) → pos s -ℤ pos x ≡ across s x
+  across-site x = rw (ne-eqb s 65535 (omega arith))
+
+  pub along-site : (v : ℕ → ℤ) → v s ≡ along v s
+  along-site v = rw (ne-eqb s 65535 (omega arith))
+
+-- what a write and the next one leave alone, both together do
+pub chain : {a b c d e f : ℤ} → (a ≡ b) × (d ≡ e) → (b ≡ c) × (e ≡ f) → (a ≡ c) × (d ≡ f)
+chain p q = (p .0 ∙ q .0, p .1 ∙ q .1)
+
+-- one pixel is written, and the others are left alone
+put-other : (p : ℕ) (dx dy : ℤ) (m : List ℤ) (q : ℕ) → q ≢ p → (dxAt (put p dx dy m) q ≡ dxAt m q) × (dyAt (put p dx dy m) q ≡ dyAt m q)
+put-other p dx dy m q n = (put-dx-other p dx dy m q n, put-dy-other p dx dy m q n)
+
+-- ---- one run
+
+module _ {base from : ℕ} {v : ℕ → ℤ} {best : ℕ → ℕ} {m : List ℤ} where
+  pub run-none : Written base from from v best m m
+  run-none = record {
+    long = refl;
+    dx = λ x h l. absurd (omega arith);
+    dy = λ x h l. absurd (omega arith);
+    under = λ p l. (refl, refl);
+    over = λ p l. (refl, refl);
+  }
+
+  pub run-more : {x : ℕ} {n o : List ℤ} → Written base from x v best m n → from ≤ x → Inside (base + x) n
+      → o ≡ put (base + x) (across (best x) x) (along v (best x)) n → Written base from (x + 1) v best m o
+  run-more {x} {n} w h i e = rw e (record {
+    long = put-length (base + x) _ _ n ∙ w .long;
+    dx = λ z l k. elim (ℕ-discrete z x) [
+      | yes q ↦ rw q (put-dx (base + x) _ _ n i)
+      | no q ↦ put-other (base + x) _ _ n (base + z) (omega arith) .0 ∙ w .dx z l (omega arith)
+    ];
+    dy = λ z l k. elim (ℕ-discrete z x) [
+      | yes q ↦ rw q (put-dy (base + x) _ _ n i)
+      | no q ↦ put-other (base + x) _ _ n (base + z) (omega arith) .1 ∙ w .dy z l (omega arith)
+    ];
+    under = λ p l. chain (put-other (base + x) _ _ n p (omega arith)) (w .under p l);
+    over = λ p l. chain (put-other (base + x) _ _ n p (omega arith)) (w .over p (omega arith));
+  })
+
+  -- an empty run writes nothing
+  pub run-end : {to x : ℕ} {n : List ℤ} → Written base from x v best m n → from ≤ x → (from < x → x ≤ to) → to ≤ x → Written base from to v best m n
+  run-end {to} {x} {n} w h g k = elim (decLt from x) [
+    | yes l ↦ let e : x ≡ to = omega (arith, g l) in rw e at w
+    | no l ↦
+        let e : x ≡ from = omega arith in
+        let f = rw e at w in
+        record {
+          long = f .long;
+          dx = λ z i j. absurd (omega arith);
+          dy = λ z i j. absurd (omega arith);
+          under = f .under;
+          over = λ p i. elim (decLt p (base + from)) [ yes j ↦ f .under p j | no j ↦ f .over p (omega arith) ];
+        }
+  ]
+
+-- two runs that meet: the later one was written first, and the earlier one says what it should
+pub run-join : {base a b n : ℕ} {u v : ℕ → ℤ} {way best : ℕ → ℕ} {m o q : List ℤ} → a ≤ b → b ≤ n
+    → Written base b n v best m o → Written base a b u way o q
+    → ((x : ℕ) → a ≤ x → x < b → (best x ≡ way x) × (along u (way x) ≡ along v (way x))) → Written base a n v best m q
+run-join {base} {a} {b} {n} {u} {v} {way} {best} {m} {o} {q} h k later earlier same = record {
+  long = earlier .long ∙ later .long;
+  dx = λ x i j. elim (decLt x b) [
+    | yes l ↦ rw (same x i l .0) (earlier .dx x i l)
+    | no l ↦ earlier .over (base + x) (omega arith) .0 ∙ later .dx x (omega arith) j
+  ];
+  dy = λ x i j. elim (decLt x b) [
+    | yes l ↦ rw (same x i l .0, ← same x i l .1) (earlier .dy x i l)
+    | no l ↦ earlier .over (base + x) (omega arith) .1 ∙ later .dy x (omega arith) j
+  ];
+  under = λ p i. chain (earlier .under p i) (later .under p (omega arith));
+  over = λ p i. chain (earlier .over p (omega arith)) (later .over p i);
+}
+
+-- ---- a row by the entries of the stack, from the last to the first
+
+-- the pixels from `to` on are written, and those before it are held by the first c entries
+pub record Unstacked (base n : ℕ) (v : ℕ → ℤ) (site start : List ℕ) (count : ℕ) (m : List ℤ) (c to : ℕ) (o : List ℤ) : Type 0 where
+  pub few : c ≤ count
+  pub on : to ≤ n
+  pub done : Written base to n v (holder site start count) m o
+  pub left : (x : ℕ) → x < to → holder site start count x ≡ holder site start c x
+
+module _ {base n : ℕ} {v : ℕ → ℤ} {site start : List ℕ} {count : ℕ} {m : List ℤ} where
+  pub unstack-none : Unstacked base n v site start count m count n m
+  unstack-none = record { few = omega arith; on = omega arith; done = run-none; left = λ x l. refl }
+
+  module _ {c to f : ℕ} {o : List ℤ} (u : Unstacked base n v site start count m c to o) (some : 0 < c) (first : f ≡ getD start (c - 1) 0) where
+    -- the last entry holds no pixel that is left
+    pub unstack-skip : to ≤ f → Unstacked base n v site start count m (c - 1) to o
+    unstack-skip h = record {
+      few = omega (arith, u .few);
+      on = u .on;
+      done = u .done;
+      left = λ x l. u .left x l ∙ holder-under site start c x some (omega arith);
+    }
+
+    -- it holds those from f on
+    pub unstack-run : {s : ℕ} {z : ℤ} {q : List ℤ} → f < to → s ≡ getD site (c - 1) 0 → z ≡ v s → Written base f to (λ b. z) (λ x. s) o q
+        → Unstacked base n v site start count m (c - 1) f q
+    unstack-run h e g w = record {
+      few = omega (arith, u .few);
+      on = omega (arith, u .on);
+      done = run-join (omega arith) (u .on) (u .done) w
+          (λ x i j. (u .left x j ∙ holder-top site start c x some (omega arith) ∙ sym e, rw g));
+      left = λ x l. u .left x (omega arith) ∙ holder-under site start c x some (omega arith);
+    }
+
+  -- no entry is left: the first pixels are unlabelled
+  pub unstack-all : {c to : ℕ} {o q : List ℤ} → Unstacked base n v site start count m c to o → c ≡ 0 → Written base 0 to (λ b. pos 0) (λ x. 65535) o q
+      → Written base 0 n v (holder site start count) m q
+  unstack-all u z w = run-join (omega arith) (u .on) (u .done) w (λ x i j. (u .left x j ∙ rw z (holder-none site start x), refl))

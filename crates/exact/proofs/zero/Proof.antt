@@ -1,0 +1,42 @@
+-- `exact::zero` meets its contract. The invariant: the first i numbers are 0, the rest are as they were.
+-- Assumes nothing.
+use mathlib.Core.Path.{_≡_}
+use Prim.Native.Nat.{_-_, _≤_}
+use native.Mathlib.Omega.{arith}
+use lib.IntN.{pos}
+use Rattle.raster.proofs.Filling.{Filling, fill-none, fill-more}
+use Rattle.exact.proofs.zero.Statement.{statement}
+use Rattle.exact.proofs.zero.Tie as tie
+
+abbrev Inv-loop : tie.InvT-loop
+Inv-loop scratch₀ n i₀ scratch i = Filling (pos 0) scratch₀ i scratch × (i ≤ n)
+
+abbrev μ-loop : tie.MeasureT-loop
+μ-loop scratch₀ n i₀ scratch i = n - i
+
+loop-holds : tie.Need-loop-holds Inv-loop μ-loop
+loop-holds c = (fill-none (pos 0) _, omega arith)
+
+loop-again : tie.Need-loop-again Inv-loop μ-loop
+loop-again c = (fill-more (c .before .loop .inv .0) (omega arith), omega arith)
+
+returns : tie.Need-returns Inv-loop μ-loop
+returns c =
+    let l = c .before in
+    let n : l .loop .i ≡ l .before .args .n = omega arith in
+    rw n at (l .loop .inv .0 .made)
+
+pub zero-spec : {M : Type 1} → statement M
+zero-spec =
+    tie.close
+    (tie.spec
+    Inv-loop
+    μ-loop
+    loop-holds
+    (λ c. omega arith)
+    (λ c. omega arith)
+    (λ c. omega arith)
+    (λ c. omega arith)
+    loop-again
+    (λ c. omega arith)
+    returns)

@@ -1,0 +1,52 @@
+-- The exact map: document 01, "Engines". Every pixel's vector goes to its nearest copper pixel, among equals to the least column, then the least row:
+-- the copper pixels are run through by column, then row, and the first of least squared distance is kept.
+-- Assumes nothing.
+use mathlib.Core.Bool.{Bool, true, cond, _&&_}
+use mathlib.Core.List.{List, _++_}
+use Prim.Native.Nat.{ℕ}
+use lib.Dec.{ltb}
+use lib.IntN.{ℤ, pos, _-ℤ_}
+use lib.ListN.{drop, replicate}
+use Rattle.raster.specs.Distance.{apart}
+use Rattle.raster.specs.Gate.{Gate}
+use Rattle.raster.specs.Loop.{ascend}
+use Rattle.raster.specs.Map.{vectors}
+use Rattle.raster.specs.Pixels.{Mask}
+use Rattle.raster.specs.Vector.{mark}
+
+-- what was found so far: nothing, or the pixel (i, j)
+pub data Found : Type 0 where
+  none : Found
+  at : (i j : ℕ) → Found
+
+-- (i, j) is nearer to (x, y) than what was found so far
+abbrev pub nearer : (x y i j : ℕ) → Found → Bool
+nearer x y i j none = true
+nearer x y i j (at a b) = ltb (apart x y i j) (apart x y a b)
+
+module _ (copper : Mask) (x y : ℕ) where
+  abbrev pub visit : (i j : ℕ) → Found → Found
+  visit i j f = cond (copper i j && nearer x y i j f) (at i j) f
+
+  unfoldable pub nearest : (w h : ℕ) → Found
+  nearest w h = ascend (λ i. ascend (visit i) h) w none
+
+-- the way from x to the column that was found, from y to the row; unlabelled where nothing was
+abbrev pub toColumn : (x : ℕ) → Found → ℤ
+toColumn x none = mark
+toColumn x (at i j) = pos i -ℤ pos x
+
+abbrev pub toRow : (y : ℕ) → Found → ℤ
+toRow y none = mark
+toRow y (at i j) = pos j -ℤ pos y
+
+unfoldable pub exactMap : (copper : Mask) (w h : ℕ) → List ℤ
+exactMap copper w h = vectors w h (λ x y. toColumn x (nearest copper x y w h)) (λ x y. toRow y (nearest copper x y w h))
+
+-- Calls, build: scratch's first n numbers at 0, the rest untouched
+abbrev pub cleared : (n : ℕ) → List ℤ → List ℤ
+cleared n scratch = replicate n (pos 0) ++ drop n scratch
+
+-- the gate at a pixel of size a: a > q
+abbrev pub gate : Gate
+gate = record { den = 1; num = 1 }

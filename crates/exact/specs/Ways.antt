@@ -1,0 +1,106 @@
+-- What the code works out on the way to the exact map: how far the nearest copper of a pixel's column is, upwards and downwards, and what the columns
+-- cost in the envelope of a row.
+-- Assumes nothing.
+use mathlib.Core.Path.{_≡_}
+use mathlib.Core.Logic.{_≢_}
+use mathlib.Core.Bool.{Bool, true, false, cond}
+use mathlib.Core.List.{List}
+use Prim.Native.Nat.{ℕ, zero, suc, _+_, _-_, _*_, _<_, _≤_}
+use lib.Dec.{leb, eqb}
+use lib.IntN.{ℤ, pos, negsuc, negℤ, natAbs, _-ℤ_}
+use lib.ListN.{length, getD}
+use lib.Signed.{mag}
+use Rattle.raster.specs.Pixels.{Mask, index, tabulate}
+use Rattle.raster.specs.Vector.{mark, isMark}
+use Rattle.raster.specs.Map.{dxAt, dyAt}
+use Rattle.envelope.specs.Best.{bestSite}
+
+-- ---- within a column
+
+-- how far copper is along a line of pixels, one step farther on than v; 0 on copper, −1 while there is none
+abbrev pub farther : (copper : Bool) → ℤ → ℤ
+farther true v = pos 0
+farther false (pos n) = pos (n + 1)
+farther false (negsuc n) = negsuc 0
+
+-- how far it is back from the t-th pixel of the line
+unfoldable pub far : (line : ℕ → Bool) (t : ℕ) → ℤ
+far line zero = farther (line 0) (negsuc 0)
+far line (suc t) = farther (line (suc t)) (far line t)
+
+-- upwards and downwards in column x from row y
+abbrev pub up : (copper : Mask) (x y : ℕ) → ℤ
+up copper x y = far (copper x) y
+
+abbrev pub down : (copper : Mask) (h x y : ℕ) → ℤ
+down copper h x y = far (λ t. copper x (h - 1 - t)) (h - 1 - y)
+
+-- the shorter of the two as a component of a vector, among equals upwards; the mark where there is neither
+abbrev pub shorter : (u d : ℤ) → ℤ
+shorter (pos u) (pos d) = cond (leb u d) (negℤ (pos u)) (pos d)
+shorter (pos u) (negsuc d) = negℤ (pos u)
+shorter (negsuc u) (pos d) = pos d
+shorter (negsuc u) (negsuc d) = mark
+
+-- what a column with that way costs: its square, and no site where there is none
+abbrev pub costOf : ℤ → ℕ
+costOf v = cond (isMark v) 4294967295 (natAbs v * natAbs v)
+
+-- ---- the two passes over the columns, on component c of the map (0: dx, 1: dy)
+
+-- a number that can be one step farther
+abbrev pub Room : ℤ → Type 0
+Room v = mag v < 32767
+
+-- row y is one step farther than the values v, and nothing else changes
+pub record Spread (copper : Mask) (w c y : ℕ) (v : ℕ → ℤ) (before after : List ℤ) : Type 0 where
+  pub long : length after ≡ length before
+  pub here : (x : ℕ) → x < w → getD after (2 * index w x y + c) (pos 0) ≡ farther (copper x y) (v x)
+  pub rest : (i : ℕ) → ((x : ℕ) → x < w → i ≢ 2 * index w x y + c) → getD after i (pos 0) ≡ getD before i (pos 0)
+
+-- dx holds the way upwards of every pixel
+pub record Risen (copper : Mask) (w h : ℕ) (before after : List ℤ) : Type 0 where
+  pub long : length after ≡ length before
+  pub ups : (x y : ℕ) → x < w → y < h → dxAt after (index w x y) ≡ up copper x y
+
+-- dy holds the way downwards of every pixel, dx is as it was
+pub record Fallen (copper : Mask) (w h : ℕ) (before after : List ℤ) : Type 0 where
+  pub long : length after ≡ length before
+  pub downs : (x y : ℕ) → x < w → y < h → dyAt after (index w x y) ≡ down copper h x y
+  pub kept : (p : ℕ) → dxAt after p ≡ dxAt before p
+
+-- ---- a row, whose first pixel is at base
+
+-- the way of column k, and the costs of all columns
+abbrev pub wayAt : List ℤ → (base k : ℕ) → ℤ
+wayAt m base k = shorter (dxAt m (base + k)) (dyAt m (base + k))
+
+unfoldable pub rowCosts : List ℤ → (base w : ℕ) → List ℕ
+rowCosts m base w = tabulate w (λ k. costOf (wayAt m base k))
+
+-- both stand in the working slices
+pub record Priced (m : List ℤ) (base w : ℕ) (ways : List ℤ) (cost : List ℕ) : Type 0 where
+  pub ways-at : (k : ℕ) → k < w → getD ways k (pos 0) ≡ wayAt m base k
+  pub costs-at : (k : ℕ) → k < w → getD cost k 0 ≡ costOf (wayAt m base k)
+
+-- the vector to the column b (65535: none), whose way is v b
+abbrev pub across : (b x : ℕ) → ℤ
+across b x = cond (eqb b 65535) mark (pos b -ℤ pos x)
+
+abbrev pub along : (v : ℕ → ℤ) (b : ℕ) → ℤ
+along v b = cond (eqb b 65535) mark (v b)
+
+-- the pixels from base + from to base + to − 1 have the vectors to the columns that `best` names, and nothing else changes
+pub record Written (base from to : ℕ) (v : ℕ → ℤ) (best : ℕ → ℕ) (before after : List ℤ) : Type 0 where
+  pub long : length after ≡ length before
+  pub dx : (x : ℕ) → from ≤ x → x < to → dxAt after (base + x) ≡ across (best x) x
+  pub dy : (x : ℕ) → from ≤ x → x < to → dyAt after (base + x) ≡ along v (best x)
+  pub under : (p : ℕ) → p < base + from → (dxAt after p ≡ dxAt before p) × (dyAt after p ≡ dyAt before p)
+  pub over : (p : ℕ) → base + to ≤ p → (dxAt after p ≡ dxAt before p) × (dyAt after p ≡ dyAt before p)
+
+-- the first n rows have the vectors to the best columns of their rows, and nothing else changes
+pub record Solved (w n : ℕ) (before after : List ℤ) : Type 0 where
+  pub long : length after ≡ length before
+  pub dx : (x y : ℕ) → x < w → y < n → dxAt after (index w x y) ≡ across (bestSite (rowCosts before (y * w) w) w x) x
+  pub dy : (x y : ℕ) → x < w → y < n → dyAt after (index w x y) ≡ along (wayAt before (y * w)) (bestSite (rowCosts before (y * w) w) w x)
+  pub over : (p : ℕ) → n * w ≤ p → (dxAt after p ≡ dxAt before p) × (dyAt after p ≡ dyAt before p)
