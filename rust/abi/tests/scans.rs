@@ -1,43 +1,16 @@
 //! The library's scans beside the model's, to the number, and beside the true distances, on many thousand sheets.
 
-use model::boards::{self, Board};
+mod common;
+
+use common::{lend, size};
+use model::boards::{self, scattered, Board};
 use model::nearest;
 use model::random::Random;
 use model::scans::{self, UNLABELLED};
 
-fn size([dx, dy]: [i16; 2]) -> u64 {
-    let (dx, dy) = (i64::from(dx), i64::from(dy));
-    (dx * dx + dy * dy) as u64
-}
-
-/// A number from `low` to `high`.
-fn between(low: usize, high: usize, random: &mut Random) -> usize {
-    low + random.below((high - low + 1) as u64) as usize
-}
-
-/// What a map may hold before: anything, and the numbers with a meaning more often.
-fn old(random: &mut Random) -> i16 {
-    match random.below(4) {
-        0 => 0,
-        1 => -32_768,
-        _ => random.next() as i16,
-    }
-}
-
-/// The library's map and answer. Sheet and map are lent as parts of larger slices that hold anything; the rest must stay as it was.
+/// The library's map and answer.
 fn lent(board: &Board, corners: bool, random: &mut Random) -> (Vec<[i16; 2]>, bool) {
-    let (w, h, pixels) = (board.w, board.h, board.sheet.len());
-    let margin = 2 * w + 9;
-    let mut sheet: Vec<u8> = (0..pixels + 2 * margin).map(|_| random.next() as u8).collect();
-    sheet[margin..][..pixels].copy_from_slice(&board.sheet);
-    let mut map: Vec<i16> = (0..2 * pixels + 2 * margin).map(|_| old(random)).collect();
-    let (sheet_before, map_before) = (sheet.clone(), map.clone());
-    let answer = abi::scan(&sheet[margin..][..pixels], &mut map[margin..][..2 * pixels], w, h, corners);
-    assert!(sheet == sheet_before, "the sheet was written: {board:?}");
-    assert_eq!(map[..margin], map_before[..margin], "written before the map: {board:?}");
-    assert_eq!(map[margin + 2 * pixels..], map_before[margin + 2 * pixels..], "written after the map: {board:?}");
-    let written = map[margin..][..2 * pixels].chunks(2).map(|pixel| [pixel[0], pixel[1]]).collect();
-    (written, answer)
+    lend(board, random, |sheet, map| abi::scan(sheet, map, board.w, board.h, corners))
 }
 
 /// The true squared distances: by brute force on small sheets, and the faster way on others.
@@ -78,28 +51,11 @@ fn check(board: &Board, random: &mut Random) {
     }
 }
 
-/// Copper anywhere: none, everywhere, a few pixels, a few in a thousand, or any part.
-fn scattered(w: usize, h: usize, random: &mut Random) -> Board {
-    let per_mille = match random.below(8) {
-        0 => [0, 1_000, 999][random.below(3) as usize],
-        1 | 2 => random.below(1_001),
-        3 | 4 => random.below(80),
-        _ => {
-            let mut board = Board::bare(w, h);
-            for _ in 0..1 + random.below(5) {
-                board.sheet[random.below((w * h) as u64) as usize] = 1 + random.below(255) as u8;
-            }
-            return board;
-        }
-    };
-    boards::random(w, h, per_mille, random)
-}
-
 #[test]
 fn small() {
     let mut random = Random::new(11);
     for _ in 0..30_000 {
-        let (w, h) = (between(1, 12, &mut random), between(1, 12, &mut random));
+        let (w, h) = (random.between(1, 12), random.between(1, 12));
         check(&scattered(w, h, &mut random), &mut random);
     }
 }
@@ -122,7 +78,7 @@ fn all_tiny() {
 fn lines() {
     let mut random = Random::new(13);
     for turn in 0..200 {
-        let n = if turn < 20 { 2_048 } else { between(1, 2_048, &mut random) };
+        let n = if turn < 20 { 2_048 } else { random.between(1, 2_048) };
         check(&scattered(n, 1, &mut random), &mut random);
         check(&scattered(1, n, &mut random), &mut random);
     }
@@ -132,7 +88,7 @@ fn lines() {
 fn medium() {
     let mut random = Random::new(14);
     for turn in 0..400 {
-        let (w, h) = (between(2, 64, &mut random), between(2, 64, &mut random));
+        let (w, h) = (random.between(2, 64), random.between(2, 64));
         let board = if turn % 4 == 0 { boards::tracks(w, h, &mut random) } else { scattered(w, h, &mut random) };
         check(&board, &mut random);
     }

@@ -1,37 +1,72 @@
 //! What the benchmark times the library beside.
 
+pub mod fused;
 pub mod plain;
+pub mod plain_exact;
 
 #[cfg(test)]
 mod tests {
-    use super::plain;
+    use super::*;
     use model::boards::{self, Board};
     use model::random::Random;
 
-    fn check(board: &Board, random: &mut Random) {
+    type Scan = fn(&[u8], &mut [i16], usize, usize, bool) -> bool;
+
+    const SCANS: [Scan; 2] = [plain::scan, fused::scan];
+
+    /// Numbers that hold anything.
+    fn anything(length: usize, random: &mut Random) -> Vec<i16> {
+        (0..length).map(|_| random.next() as i16).collect()
+    }
+
+    fn check_scans(board: &Board, random: &mut Random) {
         for corners in [false, true] {
-            let mut map: Vec<i16> = (0..2 * board.w * board.h).map(|_| random.next() as i16).collect();
-            assert!(!plain::scan(&board.sheet, &mut map, board.w, board.h, corners), "{board:?}");
-            let expected = model::scans::scan(&board.sheet, board.w, board.h, corners);
-            assert!(map == expected.concat(), "corners {corners}: {board:?}");
+            let expected = model::scans::scan(&board.sheet, board.w, board.h, corners).concat();
+            for (which, scan) in SCANS.into_iter().enumerate() {
+                let mut map = anything(2 * board.sheet.len(), random);
+                assert!(!scan(&board.sheet, &mut map, board.w, board.h, corners), "scan {which}, corners {corners}: {board:?}");
+                assert!(map == expected, "scan {which}, corners {corners}: {board:?}");
+            }
         }
     }
 
-    #[test]
-    fn as_the_model() {
-        let mut random = Random::new(21);
+    fn check_exact(board: &Board, random: &mut Random) {
+        let pixels = board.sheet.len();
+        let mut map = anything(2 * pixels, random);
+        let mut scratch = anything(pixels + 5, random);
+        let rest = scratch[pixels..].to_vec();
+        plain_exact::exact(&board.sheet, &mut map, &mut scratch, board.w, board.h);
+        assert!(map == model::exact::outwards(&board.sheet, board.w, board.h).concat(), "{board:?}");
+        assert!(scratch[..pixels].iter().all(|&number| number == 0) && scratch[pixels..] == rest, "{board:?}");
+    }
+
+    /// Runs a check on many boards.
+    fn on_boards(seed: u64, check: fn(&Board, &mut Random)) {
+        let mut random = Random::new(seed);
         for turn in 0..20_000 {
-            let (w, h) = match turn % 8 {
-                0 => (1, 1 + random.below(300) as usize),
-                1 => (1 + random.below(300) as usize, 1),
-                _ => (1 + random.below(12) as usize, 1 + random.below(12) as usize),
+            let (w, h) = match turn % 16 {
+                0 => (1, random.between(1, 300)),
+                1 => (random.between(1, 300), 1),
+                _ => (random.between(1, 12), random.between(1, 12)),
             };
-            let per_mille = [0, 5, 20, 50, 100, 300, 600, 950, 1_000][random.below(9) as usize];
-            check(&boards::random(w, h, per_mille, &mut random), &mut random);
+            let kind = [boards::scattered, boards::patterned][random.below(2) as usize];
+            let board = kind(w, h, &mut random);
+            check(&board, &mut random);
         }
         check(&boards::arrow_head(), &mut random);
         check(&boards::one_pixel(300, 200), &mut random);
         check(&boards::tracks(300, 200, &mut random), &mut random);
+        check(&boards::diagonal(200, 300), &mut random);
+    }
+
+    #[test]
+    fn scans_as_the_model() {
+        on_boards(21, check_scans);
+    }
+
+    #[test]
+    fn exact_as_the_model() {
+        on_boards(22, check_exact);
     }
 
     #[test]
@@ -40,7 +75,9 @@ mod tests {
             for (at, expected) in [(0, true), (1, false), (2_047, false), (2_048, true)] {
                 for (w, h, place) in [(2_049, 1, (at, 0)), (1, 2_049, (0, at)), (2_049, 2, (at, 1)), (2, 2_049, (1, at))] {
                     let board = Board::with(w, h, &[place]);
-                    assert_eq!(plain::scan(&board.sheet, &mut vec![0; 2 * w * h], w, h, corners), expected, "{w} × {h}, copper at {at}");
+                    for scan in SCANS {
+                        assert_eq!(scan(&board.sheet, &mut vec![0; 2 * w * h], w, h, corners), expected, "{w} × {h}, copper at {at}");
+                    }
                 }
             }
         }

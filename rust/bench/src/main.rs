@@ -1,86 +1,163 @@
-//! Times the library's scans beside plain Rust and prints a table. The number of rounds may be given.
+//! Times the library beside plain Rust and prints a table. The number of rounds may be given, and then the call that is to be timed alone.
 //!
-//! A round goes once through all boards and runs both on each, so that a slow while of the machine hits all alike. The shortest time counts.
+//! A round goes once through all boards and runs each contender on each, so that a slow while of the machine hits all alike. The shortest
+//! time counts.
 
-use bench::plain;
+use bench::{fused, plain, plain_exact};
 use model::boards::{self, Board};
 use model::random::Random;
 use std::time::{Duration, Instant};
 
 const SIDES: [usize; 3] = [512, 1_024, 2_048];
-const BOARDS: [&str; 4] = ["one pixel", "1 % random", "50 % random", "tracks"];
+const BOARDS: [&str; 6] = ["one pixel", "1 % random", "50 % random", "tracks", "diagonal", "full"];
 
-type Scan = fn(&[u8], &mut [i16], usize, usize, bool) -> bool;
+/// The slices of a contender, in which it may write anything. Before each call the sheet is the board's.
+struct Slices<'a> {
+    w: usize,
+    h: usize,
+    sheet: &'a mut [u8],
+    map: &'a mut [i16],
+    scratch: &'a mut [i16],
+}
 
-/// The library, then plain Rust.
-const SCANS: [Scan; 2] = [abi::scan, plain::scan];
+type Call = fn(&mut Slices);
 
-/// A line of the table: a board, and the shortest time that each of `SCANS` took on it.
+/// What is timed: a call of the library, the same in plain Rust, and a tuned variant of that if there is one.
+struct What {
+    name: &'static str,
+    library: Call,
+    plain: Call,
+    fused: Option<Call>,
+}
+
+const WHATS: [What; 3] = [
+    What {
+        name: "exact",
+        library: |on| abi::exact(on.sheet, on.map, on.scratch, on.w, on.h),
+        plain: |on| plain_exact::exact(on.sheet, on.map, on.scratch, on.w, on.h),
+        fused: None,
+    },
+    What {
+        name: "8SED",
+        library: |on| assert!(!abi::scan(on.sheet, on.map, on.w, on.h, true)),
+        plain: |on| assert!(!plain::scan(on.sheet, on.map, on.w, on.h, true)),
+        fused: Some(|on| assert!(!fused::scan(on.sheet, on.map, on.w, on.h, true))),
+    },
+    What {
+        name: "4SED",
+        library: |on| assert!(!abi::scan(on.sheet, on.map, on.w, on.h, false)),
+        plain: |on| assert!(!plain::scan(on.sheet, on.map, on.w, on.h, false)),
+        fused: Some(|on| assert!(!fused::scan(on.sheet, on.map, on.w, on.h, false))),
+    },
+];
+
+/// The memory of one contender, enough for the largest board.
+struct Memory {
+    sheet: Vec<u8>,
+    map: Vec<i16>,
+    scratch: Vec<i16>,
+}
+
+impl Memory {
+    fn new(pixels: usize) -> Self {
+        Memory { sheet: vec![0; pixels], map: vec![0; 2 * pixels], scratch: vec![0; pixels] }
+    }
+
+    /// The slices for a board, with its sheet. Map and scratch are as they were.
+    fn lend(&mut self, board: &Board) -> Slices<'_> {
+        let &Board { w, h, ref sheet } = board;
+        self.sheet[..w * h].copy_from_slice(sheet);
+        Slices { w, h, sheet: &mut self.sheet[..w * h], map: &mut self.map[..2 * w * h], scratch: &mut self.scratch[..w * h] }
+    }
+}
+
+/// A line of the table: a call on a board, and the shortest time of each contender.
 struct Line {
-    corners: bool,
+    what: &'static str,
     name: &'static str,
     board: Board,
-    best: [Duration; 2],
+    calls: Vec<Call>,
+    best: Vec<Duration>,
 }
 
 impl Line {
-    fn new(corners: bool, name: &'static str, side: usize) -> Self {
-        let mut random = Random::new(31);
-        let board = match name {
-            "one pixel" => boards::one_pixel(side, side),
-            "1 % random" => boards::random(side, side, 10, &mut random),
-            "50 % random" => boards::random(side, side, 500, &mut random),
-            _ => boards::tracks(side, side, &mut random),
-        };
-        Line { corners, name, board, best: [Duration::MAX; 2] }
+    fn new(what: &What, name: &'static str, side: usize) -> Self {
+        let calls: Vec<Call> = [Some(what.library), Some(what.plain), what.fused].into_iter().flatten().collect();
+        Line { what: what.name, name, board: board(name, side), best: vec![Duration::MAX; calls.len()], calls }
     }
 
-    /// Runs both once, the library first in every second turn. They must write the same.
-    fn run(&mut self, turn: usize, maps: &mut [Vec<i16>; 2]) {
-        let Board { w, h, sheet } = &self.board;
-        let [first, second] = maps.each_mut().map(|map| &mut map[..2 * w * h]);
-        for (place, map) in [&mut *first, &mut *second].into_iter().enumerate() {
-            let which = (turn + place) % 2;
+    /// Runs each contender once, another first in each turn. They must write the same.
+    fn run(&mut self, turn: usize, memories: &mut [Memory]) {
+        let mut slices: Vec<Slices> = memories.iter_mut().take(self.calls.len()).map(|memory| memory.lend(&self.board)).collect();
+        for (place, on) in slices.iter_mut().enumerate() {
+            let which = (turn + place) % self.calls.len();
             let start = Instant::now();
-            let outside = SCANS[which](sheet, map, *w, *h, self.corners);
+            self.calls[which](on);
             self.best[which] = self.best[which].min(start.elapsed());
-            assert!(!outside);
         }
-        assert!(first == second, "library and plain Rust wrote different maps");
+        for on in &slices[1..] {
+            let same = on.sheet == slices[0].sheet && on.map == slices[0].map;
+            assert!(same, "{} on {} {}: the contenders wrote different things", self.what, self.name, self.board.w);
+        }
     }
 
-    /// The shortest times in nanoseconds a pixel.
-    fn nanoseconds(&self) -> [f64; 2] {
-        self.best.map(|time| time.as_nanos() as f64 / self.board.sheet.len() as f64)
+    /// The shortest time of a contender in nanoseconds a pixel.
+    fn nanoseconds(&self, which: usize) -> Option<f64> {
+        Some(self.best.get(which)?.as_nanos() as f64 / self.board.sheet.len() as f64)
     }
 }
 
+fn board(name: &str, side: usize) -> Board {
+    let mut random = Random::new(31);
+    match name {
+        "one pixel" => boards::one_pixel(side, side),
+        "1 % random" => boards::random(side, side, 10, &mut random),
+        "50 % random" => boards::random(side, side, 500, &mut random),
+        "tracks" => boards::tracks(side, side, &mut random),
+        "diagonal" => boards::diagonal(side, side),
+        _ => boards::full(side, side),
+    }
+}
+
+/// A number of the table, or a dash.
+fn cell(number: Option<f64>) -> String {
+    number.map_or("–".into(), |number| format!("{number:.2}"))
+}
+
 fn main() {
-    let rounds = std::env::args().nth(1).map_or(20, |rounds| rounds.parse().expect("the number of rounds"));
+    let rounds = std::env::args().nth(1).map_or(10, |rounds| rounds.parse().expect("the number of rounds"));
+    let alone = std::env::args().nth(2);
     let mut lines = Vec::new();
-    for corners in [true, false] {
+    for what in WHATS.iter().filter(|what| alone.as_deref().is_none_or(|alone| alone == what.name)) {
         for name in BOARDS {
-            lines.extend(SIDES.map(|side| Line::new(corners, name, side)));
+            lines.extend(SIDES.map(|side| Line::new(what, name, side)));
         }
     }
-    let mut maps = [(); 2].map(|()| vec![0; 2 * 2_048 * 2_048]);
+    let mut memories = [(); 3].map(|()| Memory::new(2_048 * 2_048));
     for round in 0..rounds {
         for line in &mut lines {
             // the smaller boards several times, since they take less time
             for turn in 0..2_048 / line.board.w {
-                line.run(round + turn, &mut maps);
+                line.run(round + turn, &mut memories);
             }
         }
     }
-    println!("ns a pixel, the shortest of {rounds} runs of each (twice as many at 1,024, four times at 512)\n");
-    println!("{:4}  {:11}  {:>4}  {:>7}  {:>7}  {:>5}  library 2,048 / 512", "scan", "board", "side", "library", "plain", "ratio");
+    println!("ns a pixel, the shortest of {rounds} runs of each (twice as many at 1,024, four times at 512)");
+    println!("each ratio is the library's time to the one before it; plain is the same call in plain Rust, fused a tuned variant\n");
+    println!(
+        "{:5}  {:11}  {:>4}  {:>7}  {:>5}  {:>5}  {:>5}  {:>5}  library 2,048 / 512",
+        "call", "board", "side", "library", "plain", "ratio", "fused", "ratio"
+    );
     for sides in lines.chunks(SIDES.len()) {
         for line in sides {
-            let [library, plain] = line.nanoseconds();
-            let (scan, name, side) = (if line.corners { "8SED" } else { "4SED" }, line.name, line.board.w);
-            print!("{scan:4}  {name:11}  {side:4}  {library:7.2}  {plain:7.2}  {:5.2}", library / plain);
-            if side == 2_048 {
-                print!("  {:.2}", library / sides[0].nanoseconds()[0]);
+            let [library, plain, fused] = [0, 1, 2].map(|which| line.nanoseconds(which));
+            let over = |other: Option<f64>| Some(library? / other?);
+            print!("{:5}  {:11}  {:4}  {:>7}", line.what, line.name, line.board.w, cell(library));
+            for number in [plain, over(plain), fused, over(fused)] {
+                print!("  {:>5}", cell(number));
+            }
+            if line.board.w == 2_048 {
+                print!("  {}", cell(over(sides[0].nanoseconds(0))));
             }
             println!();
         }

@@ -1,9 +1,10 @@
 //! Sheets for the tests and the benchmark.
 
 use crate::random::Random;
+use std::fmt;
 
 /// A sheet with its sides.
-#[derive(Clone, Debug)]
+#[derive(Clone)]
 pub struct Board {
     pub w: usize,
     pub h: usize,
@@ -34,6 +35,20 @@ impl Board {
     }
 }
 
+/// The sides, and of a sheet that is not large a picture with `#` for copper.
+impl fmt::Debug for Board {
+    fn fmt(&self, f: &mut fmt::Formatter<'_>) -> fmt::Result {
+        write!(f, "{} × {}", self.w, self.h)?;
+        if self.w <= 100 && self.h <= 100 {
+            for row in self.sheet.chunks(self.w) {
+                let picture: String = row.iter().map(|&byte| if byte == 0 { '.' } else { '#' }).collect();
+                write!(f, "\n{picture}")?;
+            }
+        }
+        Ok(())
+    }
+}
+
 /// The 4 × 4 board of document 01 (M1).
 pub fn document_01() -> Board {
     Board::with(4, 4, &[(3, 0), (0, 3), (2, 2)])
@@ -47,6 +62,21 @@ pub fn arrow_head() -> Board {
 /// A single copper pixel, in the middle.
 pub fn one_pixel(w: usize, h: usize) -> Board {
     Board::with(w, h, &[(w / 2, h / 2)])
+}
+
+/// Copper everywhere.
+pub fn full(w: usize, h: usize) -> Board {
+    drawn(w, h, |_, _| true)
+}
+
+/// A line from the upper left corner down to the right.
+pub fn diagonal(w: usize, h: usize) -> Board {
+    drawn(w, h, |x, y| x == y)
+}
+
+/// Copper where the test says so.
+pub fn drawn(w: usize, h: usize, copper: impl Fn(usize, usize) -> bool) -> Board {
+    Board { w, h, sheet: (0..w * h).map(|at| u8::from(copper(at % w, at / w))).collect() }
 }
 
 /// Each pixel is copper with the given chance in a thousand. The copper bytes are 1 or any other that is not 0.
@@ -81,4 +111,53 @@ pub fn tracks(w: usize, h: usize, random: &mut Random) -> Board {
         board.dab(end.0, end.1, reach + 3);
     }
     board
+}
+
+/// Copper anywhere: none, everywhere, a few pixels, a few in a thousand, or any part.
+pub fn scattered(w: usize, h: usize, random: &mut Random) -> Board {
+    let per_mille = match random.below(8) {
+        0 => [0, 1_000, 999][random.below(3) as usize],
+        1 | 2 => random.below(1_001),
+        3 | 4 => random.below(80),
+        _ => {
+            let mut board = Board::bare(w, h);
+            for _ in 0..1 + random.below(5) {
+                board.sheet[random.below((w * h) as u64) as usize] = 1 + random.below(255) as u8;
+            }
+            return board;
+        }
+    };
+    self::random(w, h, per_mille, random)
+}
+
+/// A pattern on which many pixels have several nearest copper pixels.
+pub fn patterned(w: usize, h: usize, random: &mut Random) -> Board {
+    let (a, b) = (random.between(1, 7), random.between(1, 7));
+    let (column, row) = (random.between(0, w - 1), random.between(0, h - 1));
+    let square = |x: usize, y: usize| x.abs_diff(column).pow(2) + y.abs_diff(row).pow(2);
+    match random.below(8) {
+        // a checkerboard with fields of any size
+        0 => drawn(w, h, |x, y| (x / a + y / b) % 2 == 0),
+        // a lattice, straight or askew
+        1 => drawn(w, h, |x, y| (x + column) % a == 0 && (y + row) % b == 0),
+        2 => drawn(w, h, |x, y| (x + a * y + column) % (a * b + 1) == 0),
+        // diagonals, down to the right or to the left or both
+        3 => drawn(w, h, |x, y| (x + h - y + column) % (a + b) == 0),
+        4 => drawn(w, h, |x, y| (x + y + column) % (a + b) == 0 || b > 3 && (x + h - y + row) % (a + b) == 0),
+        // a ring: copper at one squared distance from a pixel, or not below it
+        5 => {
+            let size = [1, 2, 4, 5, 9, 10, 25, 25, 50, 65][random.below(10) as usize];
+            drawn(w, h, |x, y| square(x, y) == size || a > 4 && square(x, y) > size)
+        }
+        // copper anywhere, mirrored from side to side, from top to bottom or both
+        _ => {
+            let mut board = scattered(w, h, random);
+            for at in 0..w * h {
+                let (x, y) = (at % w, at / w);
+                let (x, y) = (if a < 5 { x.max(w - 1 - x) } else { x }, if a > 2 { y.max(h - 1 - y) } else { y });
+                board.sheet[at] = board.sheet[y * w + x];
+            }
+            board
+        }
+    }
 }

@@ -23,7 +23,7 @@ fn in_column(sheet: &[u8], w: usize, h: usize, column: usize, y: usize) -> Optio
 }
 
 /// The square of the difference of two coordinates.
-fn square(from: usize, to: usize) -> u64 {
+pub(crate) fn square(from: usize, to: usize) -> u64 {
     let apart = from.abs_diff(to) as u64;
     apart * apart
 }

@@ -1,0 +1,207 @@
+//! The library's exact map beside the model's, to the number, on many thousand sheets.
+
+mod common;
+
+use common::{lend, old, size, Lent};
+use model::boards::{self, patterned, scattered, Board};
+use model::exact;
+use model::random::Random;
+use model::scans::UNLABELLED;
+
+/// The library's map. Scratch is longer than it need be, more often than not.
+fn lent(board: &Board, random: &mut Random) -> Vec<[i16; 2]> {
+    let &Board { w, h, ref sheet } = board;
+    let more = [0, 1, w, random.between(0, 3 * w * h)][random.below(4) as usize];
+    let mut scratch = Lent::new(sheet.len() + more, 2 * w + 9, || old(random));
+    let (map, ()) = lend(board, random, |sheet, map| abi::exact(sheet, map, scratch.slice(), w, h));
+    let cleared = scratch.written(sheet.len(), "first W × H of scratch", board);
+    assert!(cleared.iter().all(|&number| number == 0), "scratch is not 0: {board:?}");
+    map
+}
+
+/// The model's map: by brute force if that is a matter of moments, otherwise the faster way.
+fn expected(board: &Board) -> Vec<[i16; 2]> {
+    let &Board { w, h, ref sheet } = board;
+    let copper = sheet.iter().filter(|&&byte| byte != 0).count();
+    if copper * w * h <= 1 << 22 {
+        exact::exact(sheet, w, h)
+    } else {
+        exact::outwards(sheet, w, h)
+    }
+}
+
+/// The library's map, which must be the expected one.
+fn compare(board: &Board, expected: &[[i16; 2]], random: &mut Random) {
+    let map = lent(board, random);
+    assert_eq!(map.len(), expected.len());
+    for (at, found) in map.iter().enumerate() {
+        assert_eq!(*found, expected[at], "pixel ({}, {}): {board:?}", at % board.w, at / board.w);
+    }
+}
+
+fn check(board: &Board, random: &mut Random) {
+    compare(board, &expected(board), random);
+}
+
+#[test]
+fn small() {
+    let mut random = Random::new(41);
+    for turn in 0..40_000 {
+        let (w, h) = (random.between(1, 12), random.between(1, 12));
+        let board = if turn % 2 == 0 { scattered(w, h, &mut random) } else { patterned(w, h, &mut random) };
+        check(&board, &mut random);
+    }
+}
+
+/// Every sheet of up to twelve pixels.
+#[test]
+fn all_tiny() {
+    let mut random = Random::new(42);
+    for w in 1..=12 {
+        for h in 1..=12 / w {
+            for copper in 0..1_u32 << (w * h) {
+                check(&boards::drawn(w, h, |x, y| copper >> (y * w + x) & 1 == 1), &mut random);
+            }
+        }
+    }
+}
+
+#[test]
+fn lines() {
+    let mut random = Random::new(43);
+    for turn in 0..200 {
+        let n = if turn < 20 { 2_048 } else { random.between(1, 2_048) };
+        for (w, h) in [(n, 1), (1, n), (n, 2), (2, n)] {
+            let board = if turn % 2 == 0 { scattered(w, h, &mut random) } else { patterned(w, h, &mut random) };
+            check(&board, &mut random);
+        }
+    }
+}
+
+#[test]
+fn medium() {
+    let mut random = Random::new(44);
+    for _ in 0..200 {
+        let (w, h) = (random.between(2, 64), random.between(2, 64));
+        for board in [boards::tracks(w, h, &mut random), scattered(w, h, &mut random), patterned(w, h, &mut random)] {
+            check(&board, &mut random);
+        }
+    }
+}
+
+#[test]
+fn large() {
+    let mut random = Random::new(45);
+    for (w, h) in [(2_048, 64), (64, 2_048), (512, 512)] {
+        for turn in 0..6 {
+            let board = match turn {
+                0 => boards::one_pixel(w, h),
+                1 => boards::random(w, h, 1, &mut random),
+                2 => boards::random(w, h, 500, &mut random),
+                3 => boards::tracks(w, h, &mut random),
+                4 => boards::diagonal(w, h),
+                _ => patterned(w, h, &mut random),
+            };
+            check(&board, &mut random);
+        }
+    }
+}
+
+/// On the largest sheet a single copper pixel is where every vector goes, up to ±2,047 away.
+#[test]
+fn largest() {
+    let mut random = Random::new(46);
+    for (column, row) in [(0, 0), (2_047, 0), (0, 2_047), (2_047, 2_047)] {
+        let ways = (0..2_048).flat_map(|y| (0..2_048).map(move |x| [column - x, row - y]));
+        let expected: Vec<[i16; 2]> = ways.collect();
+        compare(&Board::with(2_048, 2_048, &[(column as usize, row as usize)]), &expected, &mut random);
+    }
+}
+
+/// On the largest sheet with a diagonal line every column is a candidate in every row. The foot of the perpendicular is nearest, or the two
+/// pixels beside it are, of which the upper left one counts.
+#[test]
+fn largest_with_a_diagonal() {
+    let mut random = Random::new(47);
+    let foot = |x: i16, y: i16| (x + y) / 2;
+    let ways = (0..2_048).flat_map(|y| (0..2_048).map(move |x| [foot(x, y) - x, foot(x, y) - y]));
+    let expected: Vec<[i16; 2]> = ways.collect();
+    compare(&boards::diagonal(2_048, 2_048), &expected, &mut random);
+}
+
+/// The largest sheet without copper, full, and with a few pixels, from which many others are equally far.
+#[test]
+fn largest_with_little_to_see() {
+    let mut random = Random::new(48);
+    compare(&Board::bare(2_048, 2_048), &vec![UNLABELLED; 2_048 * 2_048], &mut random);
+    compare(&boards::full(2_048, 2_048), &vec![[0, 0]; 2_048 * 2_048], &mut random);
+    let corners = [(0, 0), (2_047, 0), (0, 2_047), (2_047, 2_047), (1_023, 1_023)];
+    let sides = [(1_024, 0), (0, 1_024), (2_047, 1_024), (1_024, 2_047)];
+    for copper in [&corners[..], &sides] {
+        let board = Board::with(2_048, 2_048, copper);
+        compare(&board, &exact::exact(&board.sheet, 2_048, 2_048), &mut random);
+    }
+}
+
+#[test]
+fn boards_of_document_01() {
+    let mut random = Random::new(49);
+    let m1 = boards::document_01();
+    check(&m1, &mut random);
+    assert_eq!(lent(&m1, &mut random)[0], [2, 2]);
+    let m5 = Board::with(3, 1, &[(0, 0)]);
+    assert_eq!(lent(&m5, &mut random), [[0, 0], [-1, 0], [-2, 0]]);
+    let m6 = Board::with(3, 1, &[(0, 0), (2, 0)]);
+    assert_eq!(lent(&m6, &mut random), [[0, 0], [-1, 0], [0, 0]]);
+}
+
+/// The exact size is 481 where 8SED has 485.
+#[test]
+fn arrow_head() {
+    let mut random = Random::new(50);
+    let board = boards::arrow_head();
+    check(&board, &mut random);
+    let at = 10 * board.w + 3;
+    assert_eq!(size(lent(&board, &mut random)[at]), 481);
+    let (map, _) = lend(&board, &mut random, |sheet, map| abi::scan(sheet, map, board.w, board.h, true));
+    assert_eq!(size(map[at]), 485);
+}
+
+#[test]
+fn no_pixels() {
+    for (w, h) in [(0, 0), (0, 5), (2_048, 0)] {
+        let mut scratch = [7; 3];
+        abi::exact(&[], &mut [], &mut scratch, w, h);
+        assert_eq!(scratch, [7; 3]);
+    }
+}
+
+#[test]
+#[should_panic(expected = "a side above 2,048")]
+fn too_wide() {
+    abi::exact(&[0; 2_049], &mut [0; 4_098], &mut [0; 2_049], 2_049, 1);
+}
+
+#[test]
+#[should_panic(expected = "a side above 2,048")]
+fn too_high() {
+    abi::exact(&[0; 2_049], &mut [0; 4_098], &mut [0; 2_049], 1, 2_049);
+}
+
+#[test]
+#[should_panic(expected = "the sheet is not 3 × 2")]
+fn short_sheet() {
+    abi::exact(&[0; 5], &mut [0; 12], &mut [0; 6], 3, 2);
+}
+
+#[test]
+#[should_panic(expected = "the map is not 2 × 3 × 2")]
+fn long_map() {
+    abi::exact(&[0; 6], &mut [0; 13], &mut [0; 6], 3, 2);
+}
+
+#[test]
+#[should_panic(expected = "scratch is below 3 × 2")]
+fn short_scratch() {
+    abi::exact(&[0; 6], &mut [0; 12], &mut [0; 5], 3, 2);
+}
