@@ -16,7 +16,7 @@ use Rattle.raster.specs.Limits.{maxSide}
 use Rattle.raster.specs.Loop.{ascend}
 use Rattle.raster.specs.Pixels.{Mask}
 use Rattle.raster.specs.Vector.{isMark}
-use Rattle.raster.specs.VectorLaws.{mark-abs, reach, way-ends}
+use Rattle.raster.specs.VectorLaws.{mark-abs, way-abs}
 use Rattle.envelope.specs.Best.{priceOf, price, Site, better, bestSite}
 use Rattle.envelope.specs.BestLaws.{better-none, better-first, better-new, better-old}
 use Rattle.exact.specs.Nearest.{Found, none, at, nearer, visit}
@@ -25,9 +25,6 @@ use Rattle.exact.proofs.Foot.{Nearest, Foot, row, no-row, same-row, foo
 use Rattle.exact.proofs.Search.{no-copper, column-search}
 
 -- a way to a row of the sheet is as long as the rows lie apart, and is not the mark
-way-abs : (y r : ℕ) → natAbs (pos r -ℤ pos y) ≡ gap y r
-way-abs y r = reach y r (pos r -ℤ pos y) (way-ends y r)
-
 way-cost : (y r h : ℕ) → h ≤ maxSide → y < h → r < h → costOf (pos r -ℤ pos y) ≡ gap y r * gap y r
 way-cost y r h tall a b = go (isMark (pos r -ℤ pos y)) refl
   where

@@ -62,3 +62,15 @@ root-le a b h = elim (decLe a b) [ yes p ↦ p | no n ↦ absurd (far (omega ari
 pub apart-self : (x y : ℕ) → apart x y x y ≡ 0
 unfolding apart
 apart-self x y = rw (gap-self x, gap-self y)
+
+pub apart-swap : (x y i j : ℕ) → apart x y i j ≡ apart i j x y
+unfolding apart
+apart-swap x y i j = rw (gap-swap x i, gap-swap y j)
+
+-- and only from itself
+pub apart-zero : (x y i j : ℕ) → apart x y i j ≡ 0 → (x ≡ i) × (y ≡ j)
+unfolding apart
+apart-zero x y i j e =
+    let a = root-le (gap x i) 0 (omega arith) in
+    let b = root-le (gap y j) 0 (omega arith) in
+    (gap-zero x i (omega arith), gap-zero y j (omega arith))

@@ -111,6 +111,9 @@ ends-step {x} {y} {a} {b} {ox} {oy} {dx} {dy} {i} {j} o e =
 pub way-ends : (x i : ℕ) → pos x +ℤ (pos i -ℤ pos x) ≡ pos i
 way-ends x i = +ℤ-comm (pos x) (pos i -ℤ pos x) ∙ -ℤ-+ℤ-cancel (pos i) (pos x)
 
+pub way-abs : (x i : ℕ) → natAbs (pos i -ℤ pos x) ≡ gap x i
+way-abs x i = reach x i (pos i -ℤ pos x) (way-ends x i)
+
 pub way-back : (y n : ℕ) → n ≤ y → negℤ (pos n) ≡ pos (y - n) -ℤ pos y
 way-back y n l =
     let a = pos (y - n) in

@@ -1,0 +1,72 @@
+-- The test `near` says what `Near` says; on an exact map it is the test of the size.
+-- Assumes nothing.
+use mathlib.Core.Path.{_≡_, refl, sym, _∙_}
+use mathlib.Core.Bool.{Bool, true, false, not, _&&_}
+use Prim.Native.Nat.{ℕ, _<_, _≤_}
+use native.Mathlib.Decide.{decLe}
+use native.Mathlib.Omega.{arith}
+use lib.Dec.{leb}
+use lib.IntN.{ℤ}
+use borrow.Author.Tests.{leb-true, le-leb, lt-leb}
+use Rattle.raster.specs.Distance.{apart, Near}
+use Rattle.raster.specs.DistanceLaws.{apart-self}
+use Rattle.raster.specs.Limits.{maxSide, maxQ}
+use Rattle.raster.specs.LoopLaws.{some-found, some-true}
+use Rattle.raster.specs.Map.{dxAt, dyAt}
+use Rattle.raster.specs.Pixels.{Mask, index}
+use Rattle.raster.specs.Tests.{and-left, and-right}
+use Rattle.raster.specs.Vector.{size}
+use Rattle.raster.specs.VectorLaws.{unlabelled-size, ends-size}
+use Rattle.exact.specs.Nearest.{exactMap}
+use Rattle.exact.proofs.Theorems.{Held, nearest-copper, bare-sheet, held}
+use Rattle.morphology.specs.Resize.{near, bareOf, stays}
+
+module _ (copper : Mask) (w h q x y : ℕ) where
+  pub near-found : near copper w h q x y ≡ true → Near copper w h x y q
+  unfolding near
+  near-found e =
+      let c = some-found w _ e in
+      let r = some-found h _ (c .passes) in record {
+        column = c .place;
+        row = r .place;
+        copper = record { across = c .below; down = r .below; metal = and-left _ _ (r .passes) };
+        within = leb-true _ q (and-right (copper (c .place) (r .place)) _ (r .passes));
+      }
+
+  pub near-true : Near copper w h x y q → near copper w h q x y ≡ true
+  unfolding near
+  near-true n = some-true w _ (n .column) (n .copper .across) (some-true h _ (n .row) (n .copper .down) (simp (n .copper .metal, le-leb (apart x y (n .column) (n .row)) q (n .within))))
+
+  pub near-false : (Near copper w h x y q → ⊥) → near copper w h q x y ≡ false
+  near-false far = go (near copper w h q x y) refl
+    where
+      go : (t : Bool) → near copper w h q x y ≡ t → t ≡ false
+      go true e = absurd (far (near-found e))
+      go false e = refl
+
+  abbrev vx : ℤ
+  vx = dxAt (exactMap copper w h) (index w x y)
+
+  abbrev vy : ℤ
+  vy = dyAt (exactMap copper w h) (index w x y)
+
+  -- on the exact map it is the test of the size: the mark's is above every q
+  pub size-near : w ≤ maxSide → h ≤ maxSide → x < w → y < h → q ≤ maxQ
+      → leb (size vx vy) q ≡ near copper w h q x y
+  size-near wide tall across down small = go (held copper w h wide tall x y across down)
+    where
+      go : Held copper w h wide tall x y across down → leb (size vx vy) q ≡ near copper w h q x y
+      go (nearest-copper i j b u) = elim (decLe (size vx vy) q) [
+        | yes l ↦ le-leb _ q l ∙ sym (near-true (record { column = i; row = j; copper = b .metal; within = omega (arith, ends-size (b .ends)) }))
+        | no n ↦ lt-leb _ q (omega arith) ∙ sym (near-false (λ c. omega (arith, c .within, b .least (c .column) (c .row) (c .copper))))
+      ]
+      go (bare-sheet bare u) =
+          lt-leb _ q (omega (arith, unlabelled-size vx vy u)) ∙ sym (near-false (λ c. bare (c .column) (c .row) (c .copper)))
+
+-- a bare pixel is near a bare one, itself: so what stays is what no bare pixel is near
+pub stays-is : (copper : Mask) (w h q x y : ℕ) → x < w → y < h → stays copper w h q x y ≡ not (near (bareOf copper) w h q x y)
+stays-is copper w h q x y across down = go (copper x y) refl
+  where
+    go : (t : Bool) → copper x y ≡ t → t && not (near (bareOf copper) w h q x y) ≡ not (near (bareOf copper) w h q x y)
+    go true e = refl
+    go false e = rw (near-true (bareOf copper) w h q x y (record { column = x; row = y; copper = record { across = across; down = down; metal = rw e }; within = omega (arith, apart-self x y) }))

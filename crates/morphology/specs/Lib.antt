@@ -1,0 +1,2 @@
+pub mod Resize
+pub mod Threshold
