@@ -1,11 +1,10 @@
 // The leaves: what a vector says, reading and writing it at a pixel of a map, and filling sheets and maps. A component is 16 bits wide in the
 // map and 32 bits wide in the hand, where no sum of it and a step overflows.
 ghost use mathlib.Core.Path.{_≡_};
-ghost use mathlib.Core.Bool.{_&&_};
 ghost use Prim.Native.Nat.{_+_, _*_, _≤_};
 ghost use lib.IntN.{natAbs, _+ℤ_};
 ghost use lib.ListN.{length, replicate};
-ghost use Rattle.raster.specs.Vector.{Short, Wide, Step, size, unlabelled, inRange, replaces};
+ghost use Rattle.raster.specs.Vector.{Short, Wide, Step, size, unlabelled, inRange};
 ghost use Rattle.raster.specs.Map.{Inside, dxAt, dyAt, sizeAt, put, unmapped, hasCopper};
 ghost use Rattle.raster.specs.Sheet.{bare, spanned, filled};
 
@@ -49,15 +48,6 @@ pub fn in_range(z: i32) -> bool
     ensures { λ r. ⌜ r ≡ inRange z ⌝ }
 {
     (-2048 < z) & (z < 2048)
-}
-
-// The candidate (cx, cy) is in the range and replaces (dx, dy). The mark's size is above that of every vector in the range, so that one
-// comparison of sizes serves an unlabelled pixel too.
-pub fn takes_over(dx: i32, dy: i32, cx: i32, cy: i32) -> bool
-    requires { ⌜ (Short dx × Short dy) × (Wide cx × Wide cy) ⌝ }
-    ensures { λ r. ⌜ r ≡ (inRange cx && inRange cy) && replaces dx dy cx cy ⌝ }
-{
-    (in_range(cx) & in_range(cy)) & (size_of(cx, cy) < size_of(dx, dy))
 }
 
 // The two components at pixel p.

@@ -1,33 +1,33 @@
--- The vector that the code carries in place of reading it again, as the next call reads its bits: it fits the map, and a candidate of it is one of the
--- pixel that holds it.
+-- A vector that the code carries: its components fit the machine's numbers, and a step that is taken back.
 -- Assumes nothing.
-use mathlib.Core.Path.{_≡_}
-use mathlib.Core.Bool.{Bool, _||_}
-use mathlib.Core.List.{List}
-use Prim.Native.Nat.{ℕ}
-use lib.IntN.{ℤ}
+use mathlib.Core.Path.{_≡_, ap, subst, _∙_}
+use lib.IntN.{ℤ, negℤ, _+ℤ_, _-ℤ_, +ℤ-idr, +ℤ-assoc, +ℤ-invl, +ℤ-invr}
 use mir.Syntax.{w32}
-use mir.Val.{toZ, ofZ}
-use mir.ValLaws.{toZ-ofZ}
-use Rattle.raster.proofs.Signed.{widen}
-use Rattle.raster.specs.Vector.{Short}
+use mir.Val.{SFits}
+use Rattle.raster.proofs.Signed.{widen, sum-wide, wide-fits}
+use Rattle.raster.specs.Vector.{Step}
 use Rattle.scan.specs.declared.Held.{Held}
-use Rattle.scan.specs.Candidate.{offer, overs}
-use Rattle.scan.specs.Scan.{state, take}
-use Rattle.scan.specs.Holding.{Holds}
+use Rattle.scan.specs.Holding.{Sized, Stepped}
 
-module _ {r : Held} {m : List ℤ} {p : ℕ} (h : Holds r m p) where
-  same-dx : toZ w32 (ofZ w32 (r .dx)) ≡ r .dx
-  same-dx = toZ-ofZ w32 (r .dx) (widen (record { sfits = h .short-dx }))
+pub back-forth : (z o : ℤ) → (z -ℤ o) +ℤ o ≡ z
+back-forth z o = +ℤ-assoc z (negℤ o) o ∙ ap (λ (k : ℤ). z +ℤ k) (+ℤ-invl o) ∙ +ℤ-idr z
 
-  same-dy : toZ w32 (ofZ w32 (r .dy)) ≡ r .dy
-  same-dy = toZ-ofZ w32 (r .dy) (widen (record { sfits = h .short-dy }))
+pub forth-back : (z o : ℤ) → (z +ℤ o) -ℤ o ≡ z
+forth-back z o = +ℤ-assoc z o (negℤ o) ∙ ap (λ (k : ℤ). z +ℤ k) (+ℤ-invr o) ∙ +ℤ-idr z
 
-  pub carried-short : Short (toZ w32 (ofZ w32 (r .dx))) × Short (toZ w32 (ofZ w32 (r .dy)))
-  carried-short = rw (same-dx, same-dy) (h .short-dx, h .short-dy)
+module _ {r : Held} (h : Sized r) where
+  pub fits-dx : SFits w32 (r .dx)
+  fits-dx = widen (record { sfits = h .short-dx })
 
-  pub carried : (at : ℕ) (ox oy : ℤ) {n : List ℤ} {b : Bool}
-      → n ≡ offer (toZ w32 (ofZ w32 (r .dx))) (toZ w32 (ofZ w32 (r .dy))) ox oy at m
-      → b ≡ overs (toZ w32 (ofZ w32 (r .dx))) (toZ w32 (ofZ w32 (r .dy))) ox oy || r .over
-      → state n b ≡ take at p ox oy (state m (r .over))
-  carried at ox oy e f = cc (same-dx, same-dy)
+  pub fits-dy : SFits w32 (r .dy)
+  fits-dy = widen (record { sfits = h .short-dy })
+
+module _ {o : ℤ} {c : Held} (h : Stepped o c) where
+  pub fits-dx-ahead : SFits w32 (c .dx)
+  fits-dx-ahead = widen (record { sfits = h .short-dx })
+
+  pub fits-dy-back : SFits w32 (c .dy -ℤ o)
+  fits-dy-back = widen (record { sfits = h .short-dy })
+
+  pub fits-dy-ahead : Step o → SFits w32 (c .dy)
+  fits-dy-ahead s = subst (SFits w32) (back-forth (c .dy) o) (wide-fits _ (sum-wide (c .dy -ℤ o) o (h .short-dy) s))

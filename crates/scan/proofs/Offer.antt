@@ -1,19 +1,27 @@
--- One candidate, as the code takes it: where it is in the range, the code writes it or what stands there, and does not ask whether the neighbour is
--- unlabelled.
+-- One candidate, as the code takes it: of vectors (`Offered`), and then of the map, where one or more candidates in turn at a pixel are one write
+-- (`Written`). The candidate of a neighbour that was seen is that of its pixel, which a write elsewhere leaves alone.
 -- Assumes nothing.
-use mathlib.Core.Path.{_≡_, refl, sym, _∙_}
-use mathlib.Core.Bool.{Bool, true, false, not, cond, _&&_, and-true, and-false, false≢true}
+use mathlib.Core.Path.{_≡_, refl, sym, ap, ap₂, _∙_}
+use mathlib.Core.Logic.{_≢_}
+use mathlib.Core.Bool.{Bool, true, false, not, cond, _&&_, _||_, and-true, and-false, false≢true}
 use mathlib.Core.List.{List}
-use Prim.Native.Nat.{ℕ, zero, suc}
+use Prim.Native.Nat.{ℕ, zero, suc, _+_, _*_}
 use native.Mathlib.Omega.{arith}
-use lib.IntN.{ℤ, pos, negsuc, _+ℤ_}
-use lib.Seq.{set-getD}
+use lib.Dec.{ltb}
+use lib.IntN.{ℤ, pos, negsuc, _+ℤ_, _-ℤ_}
+use lib.ListN.{set}
+use lib.Seq.{set-getD, set-set, set-comm}
 use borrow.Author.Tests.{eqb-true}
 use Rattle.raster.specs.Tests.{and-left, and-right, cond-ind}
-use Rattle.raster.specs.Vector.{Short, Step, mark, isMark, unlabelled, inRange, replaces}
-use Rattle.raster.specs.VectorLaws.{range-abs}
-use Rattle.raster.specs.Map.{dxAt, dyAt, put}
+use Rattle.raster.specs.Vector.{Short, Step, mark, isMark, size, unlabelled, inRange, replaces}
+use Rattle.raster.specs.VectorLaws.{range-abs, in-range-replaces}
+use Rattle.raster.specs.Map.{Inside, dxAt, dyAt, put}
+use Rattle.raster.specs.MapLaws.{put-dx, put-dy, put-dx-other, put-dy-other}
+use Rattle.scan.specs.declared.Held.{Held}
 use Rattle.scan.specs.Candidate.{allowed, gives, overs, offer}
+use Rattle.scan.specs.Scan.{State, state, take}
+use Rattle.scan.specs.Holding.{Sized, Holds, Seen, Offered, wins, told}
+use Rattle.scan.proofs.Sound.{offer-ind}
 
 -- what is one step from the mark is out of the range, so the candidate of an unlabelled neighbour is
 far : (z o : ℤ) → isMark z ≡ true → Step o → inRange (z +ℤ o) ≡ false
@@ -34,24 +42,7 @@ gives-allowed nx ny ox oy s = go (unlabelled nx ny) refl
     go true e = rw (far nx ox (and-left (isMark nx) _ e) s)
     go false e = refl
 
--- a candidate out of the range: the map stays, and the flag says whether the neighbour is labelled; one in the range leaves the flag
-module _ (nx ny ox oy : ℤ) where
-  pub out-offer : (at : ℕ) (m : List ℤ) → allowed nx ny ox oy ≡ false → m ≡ offer nx ny ox oy at m
-  unfolding offer
-  out-offer at m e = rw (e, and-false)
-
-  pub out-overs : allowed nx ny ox oy ≡ false → overs nx ny ox oy ≡ not (unlabelled nx ny)
-  unfolding overs
-  out-overs e = rw e (and-true (not (unlabelled nx ny)))
-
-  pub in-overs : allowed nx ny ox oy ≡ true → overs nx ny ox oy ≡ false
-  unfolding overs
-  in-overs e = rw e (and-false (not (unlabelled nx ny)))
-
--- what stands at a pixel, written there, changes nothing
-put-same : (p : ℕ) (m : List ℤ) → put p (dxAt m p) (dyAt m p) m ≡ m
-unfolding put
-put-same p m = rw (set-getD, set-getD)
+-- ---- of vectors
 
 -- a component in the range fits the map, as does one that stands there
 short : (z d : ℤ) (t : Bool) → (t ≡ true → inRange z ≡ true) → Short d → Short (cond t z d)
@@ -61,26 +52,113 @@ short z d t f h = cond-ind Short t (λ e. near z (f e)) (λ _. h)
     near (pos n) e = let h = range-abs (pos n) e in omega arith
     near (negsuc n) e = let h = range-abs (negsuc n) e in omega arith
 
-module _ (nx ny ox oy : ℤ) (at : ℕ) (m : List ℤ) where
-  -- the vector (x, y) fits, and written at the pixel it makes what `offer` makes
-  pub record Written (x y : ℤ) : Type 0 where
-    pub short-x : Short x
-    pub short-y : Short y
-    pub made : put at x y m ≡ offer nx ny ox oy at m
+module _ (d : Held) (nx ny ox oy : ℤ) (a : Sized d) where
+  -- a candidate out of the range: the vector stays, and the flag says whether the neighbour is labelled
+  pub offered-out : {r : Held} → allowed nx ny ox oy ≡ false → r .dx ≡ d .dx → r .dy ≡ d .dy → r .size ≡ d .size
+      → r .over ≡ not (unlabelled nx ny) || d .over → Offered d nx ny ox oy r
+  unfolding overs
+  offered-out {r} e f g h i = record {
+    dx = rw (e, and-false) f;
+    dy = rw (e, and-false) g;
+    over = rw (e, and-true) i;
+    sized = record { short-dx = rw f (a .short-dx); short-dy = rw g (a .short-dy); own = rw (f, g, h) (a .own) };
+  }
 
-  pub written : (t : Bool) {x y : ℤ} → Step ox → Short (dxAt m at) → Short (dyAt m at)
-      → t ≡ allowed nx ny ox oy && replaces (dxAt m at) (dyAt m at) (nx +ℤ ox) (ny +ℤ oy)
-      → x ≡ cond t (nx +ℤ ox) (dxAt m at) → y ≡ cond t (ny +ℤ oy) (dyAt m at) → Written x y
+  -- one in the range: the smaller of the two, and the flag stays
+  module _ (s : Step ox) (e : allowed nx ny ox oy ≡ true) where
+    wins-is : wins d nx ny ox oy ≡ ltb (size (nx +ℤ ox) (ny +ℤ oy)) (d .size)
+    wins-is =
+        let c : Bool = replaces (d .dx) (d .dy) (nx +ℤ ox) (ny +ℤ oy) in
+        ap (λ (b : Bool). b && c) (gives-allowed nx ny ox oy s)
+        ∙ sym (in-range-replaces (d .dx) (d .dy) (nx +ℤ ox) (ny +ℤ oy)) ∙ (rw (e, a .own))
+
+    pub offered-in : {r : Held} (t : Bool) → t ≡ ltb (size (nx +ℤ ox) (ny +ℤ oy)) (d .size)
+        → r .dx ≡ cond t (nx +ℤ ox) (d .dx) → r .dy ≡ cond t (ny +ℤ oy) (d .dy) → r .size ≡ cond t (size (nx +ℤ ox) (ny +ℤ oy)) (d .size)
+        → r .over ≡ d .over → Offered d nx ny ox oy r
+    unfolding overs
+    offered-in {r} t u f g h i = record {
+      dx = rw (wins-is, ← u) f;
+      dy = rw (wins-is, ← u) g;
+      over = rw (e, and-false) i;
+      sized = record {
+        short-dx = rw f (short (nx +ℤ ox) (d .dx) t (λ _. and-left (inRange (nx +ℤ ox)) _ e) (a .short-dx));
+        short-dy = rw g (short (ny +ℤ oy) (d .dy) t (λ _. and-right (inRange (nx +ℤ ox)) _ e) (a .short-dy));
+        own = rw (f, g, h) (go t);
+      };
+    }
+      where
+        go : (t : Bool) → cond t (size (nx +ℤ ox) (ny +ℤ oy)) (d .size) ≡ size (cond t (nx +ℤ ox) (d .dx)) (cond t (ny +ℤ oy) (d .dy))
+        go true = refl
+        go false = a .own
+
+-- ---- of the map
+
+-- what stands at a pixel, written there, changes nothing; of two writes at a pixel the second counts
+put-same : (p : ℕ) (m : List ℤ) → put p (dxAt m p) (dyAt m p) m ≡ m
+unfolding put
+put-same p m = rw (set-getD, set-getD)
+
+pub put-kept : {x y : ℤ} (p : ℕ) (m : List ℤ) → x ≡ dxAt m p → y ≡ dyAt m p → m ≡ put p x y m
+put-kept p m e f = rw (e, f) (sym (put-same p m))
+
+put-put : (p : ℕ) (x y a b : ℤ) (m : List ℤ) → put p x y (put p a b m) ≡ put p x y m
+unfolding put
+put-put p x y a b m =
+    ap (λ (l : List ℤ). set l (2 * p + 1) y) (set-comm (set m (2 * p) a) (2 * p + 1) (2 * p) b x (omega arith))
+    ∙ set-set (set (set m (2 * p) a) (2 * p) x) (2 * p + 1) b y ∙ ap (λ (l : List ℤ). set l (2 * p + 1) y) (set-set m (2 * p) a x)
+
+-- r, written at its pixel, stands there
+pub held : {r : Held} (at : ℕ) (m : List ℤ) → Inside at m → Sized r → Holds r (put at (r .dx) (r .dy) m) at
+held at m i s = record { dx = sym (put-dx at _ _ m i); dy = sym (put-dy at _ _ m i); sized = s }
+
+module _ (at : ℕ) (m : List ℤ) where
+  -- the state s is the map m with r at the pixel, and r's flag
+  pub record Written (r : Held) (s : State) : Type 0 where
+    pub made : s .map ≡ put at (r .dx) (r .dy) m
+    pub flag : s .over ≡ r .over
+    pub sized : Sized r
+
+  pub written-first : {d : Held} {b : Bool} → Holds d m at → d .over ≡ b → Written d (state m b)
+  written-first h e = record { made = put-kept at m (h .dx) (h .dy); flag = sym e; sized = h .sized }
+
+  pub written-next : {d r : Held} {s : State} (nx ny ox oy : ℤ) → Inside at m → Written d s → Offered d nx ny ox oy r → Written r (told at nx ny ox oy s)
   unfolding offer
-  written t s h k e f g = record {
-    short-x = rw f (short (nx +ℤ ox) (dxAt m at) t (λ i. and-left (inRange (nx +ℤ ox)) _ (both i)) h);
-    short-y = rw g (short (ny +ℤ oy) (dyAt m at) t (λ i. and-right (inRange (nx +ℤ ox)) _ (both i)) k);
-    made = rw (f, g, gives-allowed nx ny ox oy s, ← e) (go t);
+  written-next {d} {r} {s} nx ny ox oy i v o = record {
+    made = rw (v .made, put-dx at (d .dx) (d .dy) m i, put-dy at (d .dx) (d .dy) m i, o .dx, o .dy) (go (wins d nx ny ox oy));
+    flag = rw (o .over, v .flag);
+    sized = o .sized;
   }
     where
-      both : t ≡ true → allowed nx ny ox oy ≡ true
-      both i = and-left (allowed nx ny ox oy) _ (sym e ∙ i)
+      go : (t : Bool) → cond t (put at (nx +ℤ ox) (ny +ℤ oy) (put at (d .dx) (d .dy) m)) (put at (d .dx) (d .dy) m)
+          ≡ put at (cond t (nx +ℤ ox) (d .dx)) (cond t (ny +ℤ oy) (d .dy)) m
+      go true = put-put at _ _ _ _ m
+      go false = refl
 
-      go : (t : Bool) → put at (cond t (nx +ℤ ox) (dxAt m at)) (cond t (ny +ℤ oy) (dyAt m at)) m ≡ cond t (put at (nx +ℤ ox) (ny +ℤ oy) m) m
-      go true = refl
-      go false = put-same at m
+  pub written-last : {r : Held} {s : State} {n : List ℤ} → Written r s → n ≡ put at (r .dx) (r .dy) m → state n (r .over) ≡ s
+  written-last v e = ap₂ state (e ∙ sym (v .made)) (sym (v .flag))
+
+-- ---- of neighbours
+
+-- the candidate of a vector that a pixel holds is that of the pixel
+pub holds-told : {nx ny : ℤ} (at p : ℕ) (ox oy : ℤ) (s : State) → nx ≡ dxAt (s .map) p → ny ≡ dyAt (s .map) p → told at nx ny ox oy s ≡ take at p ox oy s
+holds-told at p ox oy s e f = rw (e, f)
+
+module _ {t : Bool} {o : ℤ} {c : Held} {p : ℕ} (at : ℕ) (s : State) (e : Seen t o c (s .map) p) where
+  -- a neighbour that is not there gives nothing
+  pub seen-told : (ox : ℤ) → told at (c .dx) (c .dy -ℤ o) ox o s ≡ cond t (take at p ox o s) s
+  unfolding offer overs
+  seen-told ox = go t refl
+    where
+      go : (u : Bool) → t ≡ u → told at (c .dx) (c .dy -ℤ o) ox o s ≡ cond u (take at p ox o s) s
+      go true f = let h = e .there f in holds-told at p ox o s (h .dx) (h .dy)
+      go false f = rw (e .none f)
+
+  -- a candidate at another pixel leaves it alone
+  pub seen-stays : (nx ny ox oy : ℤ) → (t ≡ true → p ≢ at) → Seen t o c (told at nx ny ox oy s .map) p
+  seen-stays nx ny ox oy z =
+      offer-ind nx ny ox oy at (s .map) (λ m. Seen t o c m p) e
+      (λ _ _. record {
+        there = λ f. let h = e .there f in record { dx = h .dx ∙ sym (put-dx-other at _ _ (s .map) p (z f)); dy = h .dy ∙ sym (put-dy-other at _ _ (s .map) p (z f)); stepped = h .stepped };
+        none = e .none;
+        stepped = e .stepped;
+      })

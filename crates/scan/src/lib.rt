@@ -2,22 +2,25 @@
 //
 // Each function that writes the map takes the flag of refusal 35 and hands it back: whether a candidate with a component outside ±2,047 was met.
 ghost use mathlib.Core.Path.{_≡_};
-ghost use mathlib.Core.Bool.{cond, _||_};
+ghost use mathlib.Core.Logic.{_≢_};
+ghost use mathlib.Core.Bool.{true, false, cond, _&&_};
 ghost use Prim.Native.Nat.{_+_, _*_, _≤_, _<_};
+ghost use lib.Dec.{ltb};
+ghost use lib.IntN.{pos, negsuc, natAbs, _+ℤ_, _-ℤ_};
 ghost use lib.ListN.{length};
-ghost use Rattle.raster.specs.Vector.{Short, Step};
+ghost use Rattle.raster.specs.Vector.{Short, Step, size, unlabelled, inRange};
 ghost use Rattle.raster.specs.Loop.{ascend, descend};
 ghost use Rattle.raster.specs.Map.{Inside};
-ghost use Rattle.scan.specs.Candidate.{offer, overs};
-ghost use Rattle.scan.specs.Scan.{seed, seeds, state, take, rightward, leftward, fromLeft, fromRight, fromThree, fromRow, fromAbove, fromBelow, downRow, upRow, scanned};
-ghost use Rattle.scan.specs.Holding.{Holds};
+ghost use Rattle.scan.specs.Scan.{seed, seeds, state, take, rightward, leftward, fromRow, fromAbove, fromBelow, downRow, upRow, scanned};
+ghost use Rattle.scan.specs.Holding.{square, Sized, Holds, Stepped, Ahead, Seen, Offered, told};
 
 // ---- one candidate
 
-// What a pixel holds, and the flag.
+// The vector of a pixel with its size, and the flag.
 pub struct Held {
     pub dx: i32,
     pub dy: i32,
+    pub size: u32,
     pub over: bool,
 }
 
@@ -31,31 +34,68 @@ fn pick(first: bool, a: i32, b: i32) -> i32
     b
 }
 
-// Pixel `at` is offered the candidate of a neighbour that holds (nx, ny) and stands at (ox, oy) from it. That of an unlabelled one is never in the
-// range, so the flag needs a look at the neighbour only where the candidate is not.
-fn relax(map: &mut [i16], at: usize, nx: i32, ny: i32, ox: i32, oy: i32, over: bool) -> Held
-    requires { ⌜ Inside at (now map) ⌝ }
-    requires { ⌜ (Short nx × Short ny) × (Step ox × Step oy) ⌝ }
-    ensures { λ _. ⌜ now (map .exit) ≡ offer nx ny ox oy at (now (map .entry)) ⌝ }
-    ensures { λ r. ⌜ Holds r (now (map .exit)) at ⌝ }
-    ensures { λ r. ⌜ r .over ≡ overs nx ny ox oy || over ⌝ }
+// One of two sizes.
+fn pick_size(first: bool, a: u32, b: u32) -> u32
+    ensures { λ r. ⌜ r ≡ cond first a b ⌝ }
 {
-    let cx = raster::shifted(nx, ox);
-    let cy = raster::shifted(ny, oy);
-    let dx = raster::dx_at(map, at);
-    let dy = raster::dy_at(map, at);
-    if !(raster::in_range(cx) & raster::in_range(cy)) {
+    if first {
+        return a;
+    }
+    b
+}
+
+// What a step o adds to the square of the component v: 2vo + o², here with 4,096 more, so that it is not negative.
+fn growth(v: i32, o: i32) -> u32
+    requires { ⌜ (natAbs v ≤ 2048) × Step o ⌝ }
+    ensures { λ r. ⌜ (r + square v ≡ 4096 + square (v +ℤ o)) × (r ≤ 8193) ⌝ }
+{
+    if o < 0 {
+        return (4097 - (v + v)) as u32;
+    }
+    if 0 < o {
+        return (4097 + (v + v)) as u32;
+    }
+    4096
+}
+
+// Whether a neighbour whose vector is c, stepped up or down already, has a candidate in the range at the step o to the side.
+fn is_allowed(c: Held, o: i32) -> bool
+    requires { ⌜ Short (c .dx) × Step o ⌝ }
+    ensures { λ r. ⌜ r ≡ inRange (c .dx +ℤ o) && inRange (c .dy) ⌝ }
+{
+    raster::in_range(raster::shifted(c.dx, o)) & raster::in_range(c.dy)
+}
+
+// The size of that candidate, from the size of c.
+fn size_after(c: Held, o: i32) -> u32
+    requires { ⌜ (c .size ≡ size (c .dx) (c .dy)) × (Step o × (inRange (c .dx +ℤ o) && inRange (c .dy) ≡ true)) ⌝ }
+    ensures { λ r. ⌜ r ≡ size (c .dx +ℤ o) (c .dy) ⌝ }
+{
+    c.size + growth(c.dx, o) - 4096
+}
+
+// What a pixel that holds d holds after the candidate of a neighbour at (ox, oy) whose vector with the step (0, oy) is c. That of an unlabelled one is
+// never in the range, so the flag needs a look at the neighbour only where the candidate is not.
+fn better(d: Held, c: Held, ox: i32, oy: i32) -> Held
+    requires { ⌜ (Sized d × Stepped oy c) × (Step ox × Step oy) ⌝ }
+    ensures { λ r. ⌜ Offered d (c .dx) (c .dy -ℤ oy) ox oy r ⌝ }
+{
+    if !is_allowed(c, ox) {
         return Held {
-            dx,
-            dy,
-            over: !raster::is_unlabelled(nx, ny) | over,
+            dx: d.dx,
+            dy: d.dy,
+            size: d.size,
+            over: !raster::is_unlabelled(c.dx, c.dy - oy) | d.over,
         };
     }
-    let takes = raster::takes_over(dx, dy, cx, cy);
-    let x = pick(takes, cx, dx);
-    let y = pick(takes, cy, dy);
-    raster::put_at(map, at, x, y);
-    Held { dx: x, dy: y, over }
+    let size = size_after(c, ox);
+    let takes = size < d.size;
+    Held {
+        dx: pick(takes, raster::shifted(c.dx, ox), d.dx),
+        dy: pick(takes, c.dy, d.dy),
+        size: pick_size(takes, size, d.size),
+        over: d.over,
+    }
 }
 
 // What pixel p holds.
@@ -63,22 +103,45 @@ fn read(map: &[i16], p: usize, over: bool) -> Held
     requires { ⌜ Inside p (now map) ⌝ }
     ensures { λ r. ⌜ Holds r (now (map .entry)) p × (r .over ≡ over) ⌝ }
 {
+    let dx = raster::dx_at(map, p);
+    let dy = raster::dy_at(map, p);
     Held {
-        dx: raster::dx_at(map, p),
-        dy: raster::dy_at(map, p),
+        dx,
+        dy,
+        size: raster::size_of(dx, dy),
         over,
     }
 }
 
-// Pixel `at` takes from its neighbour `from`, which stands at (ox, oy) from it.
-fn take(map: &mut [i16], at: usize, from: usize, ox: i32, oy: i32, over: bool) -> bool
-    requires { ⌜ Inside at (now map) × Inside from (now map) ⌝ }
-    requires { ⌜ Step ox × Step oy ⌝ }
-    ensures { λ r. ⌜ state (now (map .exit)) r ≡ take at from ox oy (state (now (map .entry)) over) ⌝ }
+// Pixel `at` is offered the candidate of a neighbour in its row that holds n and stands at (o, 0). Along a row most candidates go one way for long,
+// so that here a branch is faster than a choice of numbers.
+fn relax(map: &mut [i16], at: usize, n: Held, o: i32) -> Held
+    requires { ⌜ Inside at (now map) ⌝ }
+    requires { ⌜ Sized n × Step o ⌝ }
+    ensures { λ r. ⌜ state (now (map .exit)) (r .over) ≡ told at (n .dx) (n .dy) o (pos 0) (state (now (map .entry)) (n .over)) ⌝ }
+    ensures { λ r. ⌜ Holds r (now (map .exit)) at ⌝ }
 {
-    let n = read(map, from, over);
-    let after = relax(map, at, n.dx, n.dy, ox, oy, n.over);
-    after.over
+    let d = read(map, at, n.over);
+    if !is_allowed(n, o) {
+        return Held {
+            dx: d.dx,
+            dy: d.dy,
+            size: d.size,
+            over: !raster::is_unlabelled(n.dx, n.dy) | d.over,
+        };
+    }
+    let size = size_after(n, o);
+    if size < d.size {
+        let dx = raster::shifted(n.dx, o);
+        raster::put_at(map, at, dx, n.dy);
+        return Held {
+            dx,
+            dy: n.dy,
+            size,
+            over: d.over,
+        };
+    }
+    d
 }
 
 // ---- the two sweeps of a row
@@ -92,7 +155,7 @@ fn rightward(map: &mut [i16], w: usize, y: usize, over: bool) -> bool
     let mut last = read(map, base, over);
     let mut x = 0;
     while x + 1 < w {
-        last = relax(map, base + (x + 1), last.dx, last.dy, -1, 0, last.over);
+        last = relax(map, base + (x + 1), last, -1);
         x += 1;
     }
     last.over
@@ -108,76 +171,113 @@ fn leftward(map: &mut [i16], w: usize, y: usize, over: bool) -> bool
     let mut last = read(map, base + x, over);
     while 0 < x {
         x -= 1;
-        last = relax(map, base + x, last.dx, last.dy, 1, 0, last.over);
+        last = relax(map, base + x, last, 1);
     }
     last.over
 }
 
-// ---- from row to row: `corners` says 8SED, o is −1 from the row above and 1 from the row below
+// ---- from row to row: o is −1 from the row above and 1 from the row below
 
-// Pixel (x, y) from its left neighbour in the row before, if there is one and the engine looks at it.
-fn from_left(
-    map: &mut [i16],
-    w: usize,
-    x: usize,
-    y: usize,
-    before: usize,
-    o: i32,
-    corners: bool,
-    over: bool,
-) -> bool
-    requires { ⌜ (x < w) × ((2 * (y * w + w) ≤ length (now map)) × (2 * (before * w + w) ≤ length (now map))) ⌝ }
-    requires { ⌜ Step o ⌝ }
-    ensures { λ r. ⌜ state (now (map .exit)) r ≡ fromLeft w corners y before o x (state (now (map .entry)) over) ⌝ }
+// The vector of pixel p with the step (0, o).
+fn ahead(map: &[i16], p: usize, o: i32) -> Held
+    requires { ⌜ Inside p (now map) × Step o ⌝ }
+    ensures { λ r. ⌜ Ahead o r (now (map .entry)) p ⌝ }
 {
-    if corners & (0 < x) {
-        return take(map, y * w + x, before * w + (x - 1), -1, o, over);
+    let dx = raster::dx_at(map, p);
+    let dy = raster::shifted(raster::dy_at(map, p), o);
+    Held {
+        dx,
+        dy,
+        size: raster::size_of(dx, dy),
+        over: false,
     }
-    over
 }
 
-// Its right neighbour there, likewise.
-fn from_right(
-    map: &mut [i16],
-    w: usize,
-    x: usize,
-    y: usize,
-    before: usize,
-    o: i32,
-    corners: bool,
-    over: bool,
-) -> bool
-    requires { ⌜ (x < w) × ((2 * (y * w + w) ≤ length (now map)) × (2 * (before * w + w) ≤ length (now map))) ⌝ }
+// That of a pixel which is not there, as of an unlabelled one.
+fn nothing(o: i32) -> Held
     requires { ⌜ Step o ⌝ }
-    ensures { λ r. ⌜ state (now (map .exit)) r ≡ fromRight w corners y before o x (state (now (map .entry)) over) ⌝ }
+    ensures { λ r. ⌜ Stepped o r × (unlabelled (r .dx) (r .dy -ℤ o) ≡ true) ⌝ }
 {
-    if corners & (x + 1 < w) {
-        return take(map, y * w + x, before * w + (x + 1), 1, o, over);
+    let dy = raster::shifted(-32768, o);
+    Held {
+        dx: -32768,
+        dy,
+        size: raster::size_of(-32768, dy),
+        over: false,
     }
-    over
 }
 
-// Pixel (x, y) from the row before: upper left, above, upper right.
-fn from_three(
-    map: &mut [i16],
-    w: usize,
-    x: usize,
-    y: usize,
-    before: usize,
-    o: i32,
-    corners: bool,
-    over: bool,
-) -> bool
-    requires { ⌜ (x < w) × ((2 * (y * w + w) ≤ length (now map)) × (2 * (before * w + w) ≤ length (now map))) ⌝ }
+// Pixel `at` takes from its neighbour `from`, which stands at (0, o) from it.
+fn take(map: &mut [i16], at: usize, from: usize, o: i32, over: bool) -> bool
+    requires { ⌜ Inside at (now map) × Inside from (now map) ⌝ }
     requires { ⌜ Step o ⌝ }
-    ensures { λ r. ⌜ state (now (map .exit)) r ≡ fromThree w corners y before o x (state (now (map .entry)) over) ⌝ }
+    ensures { λ r. ⌜ state (now (map .exit)) r ≡ take at from (pos 0) o (state (now (map .entry)) over) ⌝ }
 {
-    let left = from_left(map, w, x, y, before, o, corners, over);
-    let above = take(map, y * w + x, before * w + x, 0, o, left);
-    from_right(map, w, x, y, before, o, corners, above)
+    let c = ahead(map, from, o);
+    let d = read(map, at, over);
+    let after = better(d, c, 0, o);
+    raster::put_at(map, at, after.dx, after.dy);
+    after.over
 }
 
-// Every pixel of row y from the row before.
+// 4SED: every pixel of row y from the pixel beside it in the row before.
+fn from_straight(map: &mut [i16], w: usize, y: usize, before: usize, o: i32, over: bool) -> bool
+    requires { ⌜ (2 * (y * w + w) ≤ length (now map)) × (2 * (before * w + w) ≤ length (now map)) ⌝ }
+    requires { ⌜ Step o ⌝ }
+    ensures { λ r. ⌜ state (now (map .exit)) r ≡ fromRow w false y before o (state (now (map .entry)) over) ⌝ }
+{
+    let mut met = over;
+    for x in 0..w {
+        met = take(map, y * w + x, before * w + x, o, met);
+    }
+    met
+}
+
+// The vector of pixel x of the row of w pixels from `start` on, if there is one, with the step (0, o).
+fn neighbour(map: &[i16], start: usize, x: usize, w: usize, o: i32) -> Held
+    requires { ⌜ (2 * (start + w) ≤ length (now map)) × Step o ⌝ }
+    ensures { λ r. ⌜ Seen (ltb x w) o r (now (map .entry)) (start + x) ⌝ }
+{
+    if x < w {
+        return ahead(map, start + x, o);
+    }
+    nothing(o)
+}
+
+// Pixel `at` is offered the candidates of its left, middle and right neighbour in the row before, all with the step (0, o).
+fn three(map: &mut [i16], at: usize, left: Held, mid: Held, right: Held, o: i32, over: bool) -> bool
+    requires { ⌜ Inside at (now map) × (Stepped o left × (Stepped o mid × Stepped o right)) ⌝ }
+    requires { ⌜ Step o ⌝ }
+    ensures { λ r. ⌜ state (now (map .exit)) r ≡ told at (right .dx) (right .dy -ℤ o) (pos 1) o (told at (mid .dx) (mid .dy -ℤ o) (pos 0) o (told at (left .dx) (left .dy -ℤ o) (negsuc 0) o (state (now (map .entry)) over))) ⌝ }
+{
+    let d = read(map, at, over);
+    let a = better(d, left, -1, o);
+    let b = better(a, mid, 0, o);
+    let c = better(b, right, 1, o);
+    raster::put_at(map, at, c.dx, c.dy);
+    c.over
+}
+
+// 8SED: every pixel of row y from the three beside it in the row before, each of which is read once.
+fn from_three(map: &mut [i16], w: usize, y: usize, before: usize, o: i32, over: bool) -> bool
+    requires { ⌜ (y ≢ before) × ((2 * (y * w + w) ≤ length (now map)) × (2 * (before * w + w) ≤ length (now map))) ⌝ }
+    requires { ⌜ Step o ⌝ }
+    ensures { λ r. ⌜ state (now (map .exit)) r ≡ fromRow w true y before o (state (now (map .entry)) over) ⌝ }
+{
+    let start = before * w;
+    let mut met = over;
+    let mut left = nothing(o);
+    let mut mid = neighbour(map, start, 0, w, o);
+    for x in 0..w {
+        let right = neighbour(map, start, x + 1, w, o);
+        met = three(map, y * w + x, left, mid, right, o, met);
+        left = mid;
+        mid = right;
+    }
+    met
+}
+
+// Every pixel of row y from the row before; `corners` says 8SED.
 fn from_row(
     map: &mut [i16],
     w: usize,
@@ -187,15 +287,14 @@ fn from_row(
     corners: bool,
     over: bool,
 ) -> bool
-    requires { ⌜ (2 * (y * w + w) ≤ length (now map)) × (2 * (before * w + w) ≤ length (now map)) ⌝ }
+    requires { ⌜ (y ≢ before) × ((2 * (y * w + w) ≤ length (now map)) × (2 * (before * w + w) ≤ length (now map))) ⌝ }
     requires { ⌜ Step o ⌝ }
     ensures { λ r. ⌜ state (now (map .exit)) r ≡ fromRow w corners y before o (state (now (map .entry)) over) ⌝ }
 {
-    let mut met = over;
-    for x in 0..w {
-        met = from_three(map, w, x, y, before, o, corners, met);
+    if corners {
+        return from_three(map, w, y, before, o, over);
     }
-    met
+    from_straight(map, w, y, before, o, over)
 }
 
 // ---- the scans

@@ -12,7 +12,7 @@ from-row-requires : tie.Need-from-row-requires
 from-row-requires c κs =
     let a = c .before .before .args in
     let h : a .y - 1 ≤ a .y = omega arith in
-    ((search needs, omega (arith, mul-le-mul-right (a .w) h)), search needs)
+    ((λ e. omega arith, (search needs, omega (arith, mul-le-mul-right (a .w) h))), search needs)
 
 returns : tie.Need-returns
 returns c = rw (lt-ltb _ _ (c .before .before .before .if1 .taken)) (c .before .from-row .ensures)

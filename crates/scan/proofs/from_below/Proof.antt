@@ -12,7 +12,7 @@ from-row-requires c κs =
     let s = c .before .before in
     let g = mul-le-mul-right (s .args .w) (s .pre .0) in
     let h = mul-le-mul-right (s .args .w) (c .before .if1 .taken) in
-    ((omega arith, omega arith), search needs)
+    ((λ e. omega arith, (omega arith, omega arith)), search needs)
 
 returns : tie.Need-returns
 returns c = rw (lt-ltb _ _ (c .before .before .before .if1 .taken)) (c .before .from-row .ensures)

@@ -1,58 +1,27 @@
--- `scan::from_row` meets its contract. The invariant: map and flag are what the x pixels passed make of those at entry.
+-- `scan::from_row` meets its contract, by that of the row's function for the engine.
 -- Assumes nothing.
-use mathlib.Core.Path.{_≡_, refl, _∙_}
-use Prim.Native.Nat.{_-_, _≤_}
-use native.Mathlib.Omega.{arith}
-use lib.ListN.{length}
-use mir.Syntax.{w32}
-use mir.Val.{toZ}
 use mir.ValLaws.{toZ-ofZ}
 use borrow.Author.Needs.{needs}
-use Rattle.raster.specs.Loop.{ascend}
-use Rattle.raster.specs.LoopLaws.{up-turn}
-use Rattle.scan.specs.Scan.{state, fromThree, fromRow}
 use Rattle.scan.proofs.from_row.Statement.{statement}
 use Rattle.scan.proofs.from_row.Tie as tie
 
-abbrev Inv-loop : tie.InvT-loop
-Inv-loop map₀ w y before o corners over met₀ x₀ map met x =
-    (state map met ≡ ascend (fromThree w corners y before (toZ w32 o)) x (state map₀ over)) × (x ≤ w) × (length map ≡ length map₀)
-
-abbrev μ-loop : tie.MeasureT-loop
-μ-loop map₀ w y before o corners over met₀ x₀ map met x = w - x
-
-loop-holds : tie.Need-loop-holds Inv-loop μ-loop
-unfolding ascend
-loop-holds c = (refl, omega arith, refl)
-
-from-three-requires : tie.Need-from-three-requires Inv-loop μ-loop
-from-three-requires c κs =
-    let s = c .before .before .before in
-    simp (toZ-ofZ, s .fits .o) ((omega arith, (omega arith, omega arith)), s .pre .1)
-
-loop-again : tie.Need-loop-again Inv-loop μ-loop
-loop-again c =
-    let l = c .before .before .before .before in
-    let f = c .before .from-three in
-    (up-turn _ _ _ (f .ensures) (l .loop .inv .0), omega arith, f .kept .0 ∙ l .loop .inv .2)
-
-returns : tie.Need-returns Inv-loop μ-loop
-unfolding fromRow
+returns : tie.Need-returns
 returns c =
-    let l = c .before in
-    let n : l .loop .x ≡ l .before .args .w = omega arith in
-    simp (n, toZ-ofZ, l .before .fits .o) at (l .loop .inv .0)
+    let t = c .before .before .before in
+    rw (t .if1 .taken) (simp (toZ-ofZ, t .before .fits .o) at (c .before .from-three .ensures))
+
+returns-2 : tie.Need-returns-2
+returns-2 c =
+    let t = c .before .before .before in
+    rw (t .if1 .left) (simp (toZ-ofZ, t .before .fits .o) at (c .before .from-straight .ensures))
 
 pub from-row-spec : {M : Type 1} → statement M
 from-row-spec =
     tie.close
     (tie.spec
-    Inv-loop
-    μ-loop
-    loop-holds
-    from-three-requires
+    (λ c κs. search needs)
     (λ c. search needs)
+    returns
+    (λ c κs. search needs)
     (λ c. search needs)
-    loop-again
-    (λ c. search needs)
-    returns)
+    returns-2)

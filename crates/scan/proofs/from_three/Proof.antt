@@ -1,55 +1,151 @@
--- `scan::from_three` meets its contract, by those of the three calls in order.
+-- `scan::from_three` meets its contract. The invariant: map and flag are what the x pixels passed make of those at entry, `left` and `mid` are the
+-- vectors of the pixels x − 1 and x of the row before, if there are such, with the step; the writes in row y leave those alone.
 -- Assumes nothing.
-use mathlib.Core.Path.{_≡_, ap, _∙_}
-use mathlib.Core.Bool.{Bool}
-use Prim.Native.Nat.{ℕ}
+use mathlib.Core.Path.{_≡_, refl, ap, _∙_}
+use mathlib.Core.Logic.{_≢_}
+use mathlib.Core.Bool.{Bool, true, false≢true}
+use Prim.Native.Nat.{ℕ, _+_, _-_, _≤_, _<_}
+use native.Mathlib.Decide.{decLt}
+use native.Mathlib.Nat.{mul-le-mul-right}
 use native.Mathlib.Omega.{arith}
-use lib.IntN.{ℤ, pos}
+use lib.Dec.{ltb}
+use lib.IntN.{ℤ, pos, negsuc, _-ℤ_}
+use lib.ListN.{length}
+use mir.Syntax.{w32}
+use mir.Val.{toZ, ofZ}
 use mir.ValLaws.{toZ-ofZ}
 use borrow.Author.Needs.{needs}
+use borrow.Author.Tests.{lt-ltb, ltb-true}
+use Rattle.raster.specs.Loop.{ascend}
+use Rattle.raster.specs.LoopLaws.{up-turn}
 use Rattle.raster.specs.Pixels.{index}
-use Rattle.scan.specs.Scan.{State, state, take, fromLeft, fromRight, fromThree}
+use Rattle.scan.specs.declared.Held.{Held}
+use Rattle.scan.specs.Scan.{State, state, take, fromRight, fromThree, fromRow}
+use Rattle.scan.specs.Holding.{Seen, told}
+use Rattle.scan.proofs.Offer.{holds-told, seen-told, seen-stays}
 use Rattle.scan.proofs.from_three.Statement.{statement}
 use Rattle.scan.proofs.from_three.Tie as tie
 
-take-requires : tie.Need-take-requires
-take-requires c κs =
-    let s = c .before .before .before .before in
-    simp (toZ-ofZ, s .fits .o) ((omega arith, omega arith), (omega arith, s .pre .1))
+-- ---- one pixel
 
-from-right-requires : tie.Need-from-right-requires
-from-right-requires c κs =
-    let s = c .before .before .before .before .before .before .before in
-    simp (toZ-ofZ, s .fits .o) ((omega arith, (omega arith, omega arith)), s .pre .1)
+-- pixels of different rows are different
+elsewhere : (w x y z b : ℕ) → y ≢ b → x < w → z < w → index w z b ≢ index w x y
+elsewhere w x y z b n h k e = elim (decLt y b) [
+  | yes l ↦ omega (arith, mul-le-mul-right w l, e)
+  | no p ↦ elim (decLt b y) [ yes l ↦ omega (arith, mul-le-mul-right w l, e) | no q ↦ n (omega arith) ]
+]
 
--- one call after the other
-in-order : (w : ℕ) (corners : Bool) (y before : ℕ) (o : ℤ) (x : ℕ) (s : State) {l m r : State}
-    → l ≡ fromLeft w corners y before o x s → m ≡ take (index w x y) (index w x before) (pos 0) o l → r ≡ fromRight w corners y before o x m
-    → r ≡ fromThree w corners y before o x s
-unfolding fromThree
-in-order w corners y before o x s e f g = g ∙ ap (fromRight w corners y before o x) (f ∙ ap (take (index w x y) (index w x before) (pos 0) o) e)
+module _ (w y b : ℕ) (o : ℤ) (rows : y ≢ b) (x : ℕ) (on : x < w) (s : State) {left mid right : Held}
+    (l : Seen (ltb 0 x) o left (s .map) (index w (x - 1) b)) (m : Seen (ltb x w) o mid (s .map) (index w x b)) (r : Seen (ltb (x + 1) w) o right (s .map) (index w (x + 1) b)) where
+  abbrev at : ℕ
+  at = index w x y
 
-returns : tie.Need-returns
-returns c =
-    let t = c .before .before .before .before in
-    let l = t .before .before .before in
-    let s = l .before .before in
+  -- after one, two and three candidates
+  abbrev one : State
+  one = told at (left .dx) (left .dy -ℤ o) (negsuc 0) o s
+
+  abbrev two : State
+  two = told at (mid .dx) (mid .dy -ℤ o) (pos 0) o one
+
+  abbrev all : State
+  all = told at (right .dx) (right .dy -ℤ o) (pos 1) o two
+
+  -- a pixel of the row before is still what it was
+  stays-one : {t : Bool} {n : Held} (z : ℕ) → (t ≡ true → z < w) → Seen t o n (s .map) (index w z b) → Seen t o n (one .map) (index w z b)
+  stays-one z k e = seen-stays at s e (left .dx) (left .dy -ℤ o) (negsuc 0) o (λ f. elsewhere w x y z b rows on (k f))
+
+  stays-two : {t : Bool} {n : Held} (z : ℕ) → (t ≡ true → z < w) → Seen t o n (s .map) (index w z b) → Seen t o n (two .map) (index w z b)
+  stays-two z k e = seen-stays at one (stays-one z k e) (mid .dx) (mid .dy -ℤ o) (pos 0) o (λ f. elsewhere w x y z b rows on (k f))
+
+  stays : {t : Bool} {n : Held} (z : ℕ) → (t ≡ true → z < w) → Seen t o n (s .map) (index w z b) → Seen t o n (all .map) (index w z b)
+  stays z k e = seen-stays at two (stays-two z k e) (right .dx) (right .dy -ℤ o) (pos 1) o (λ f. elsewhere w x y z b rows on (k f))
+
+  beyond : ltb (x + 1) w ≡ true → x + 1 < w
+  beyond e = ltb-true (x + 1) w e
+
+  made : all ≡ fromThree w true y b o x s
+  unfolding fromThree
+  made =
+      let h = stays-one x (λ _. on) m .there (lt-ltb x w on) in
+      seen-told at two (stays-two (x + 1) beyond r) (pos 1)
+      ∙ ap (fromRight w true y b o x)
+      (holds-told at (index w x b) (pos 0) o one (h .dx) (h .dy) ∙ ap (take at (index w x b) (pos 0) o) (seen-told at s l (negsuc 0)))
+
+  -- the window moves on
+  next-left : Seen (ltb 0 (x + 1)) o mid (all .map) (index w (x + 1 - 1) b)
+  next-left =
+      let e : x ≡ x + 1 - 1 = omega arith in
+      rw (lt-ltb 0 (x + 1) (omega arith), ← e, ← lt-ltb x w on) (stays x (λ _. on) m)
+
+  next-mid : Seen (ltb (x + 1) w) o right (all .map) (index w (x + 1) b)
+  next-mid = stays (x + 1) beyond r
+
+-- ---- the loop
+
+abbrev Inv-loop : tie.InvT-loop
+Inv-loop map₀ w y before o over start met₀ left₀ mid₀ x₀ map met left mid x =
+    (state map met ≡ ascend (fromThree w true y before (toZ w32 o)) x (state map₀ over)) × (x ≤ w) × (length map ≡ length map₀)
+    × Seen (ltb 0 x) (toZ w32 o) left map (index w (x - 1) before) × Seen (ltb x w) (toZ w32 o) mid map (index w x before)
+
+abbrev μ-loop : tie.MeasureT-loop
+μ-loop map₀ w y before o over start met₀ left₀ mid₀ x₀ map met left mid x = w - x
+
+loop-holds : tie.Need-loop-holds Inv-loop μ-loop
+unfolding ascend
+loop-holds c =
+    let n = c .before .before .nothing .ensures in
+    (refl, omega arith, refl, record { there = λ e. absurd (false≢true e); none = λ _. n .1; stepped = n .0 }, c .neighbour .ensures)
+
+three-requires : tie.Need-three-requires Inv-loop μ-loop
+three-requires c κs =
+    let n = c .before .neighbour2 .ensures in
+    let l = c .before .before .before .before .loop in
+    let s = c .before .before .before .before .before .before .before .before in
+    ((omega arith, (l .inv .3 .stepped, (l .inv .4 .stepped, n .stepped))), simp (toZ-ofZ, s .fits .o) (s .pre .1))
+
+loop-again : tie.Need-loop-again Inv-loop μ-loop
+loop-again c =
+    let t = c .before .three in
+    let n = c .before .before .before .neighbour2 in
+    let l = c .before .before .before .before .before .before .loop in
+    let i = c .before .before .before .before .before .loop-test .taken in
+    let s = c .before .before .before .before .before .before .before .before .before .before in
     let a = s .args in
-    in-order (a .w) (a .corners) (a .y) (a .before) (a .o) (a .x) (state (a .map .now) (a .over))
-    (simp (toZ-ofZ, s .fits .o) at (l .from-left .ensures))
-    (simp (toZ-ofZ, s .fits .o) at (t .take .ensures))
-    (simp (toZ-ofZ, s .fits .o) at (c .before .from-right .ensures))
+    let o = toZ w32 (ofZ w32 (a .o)) in
+    let u = state (l .map) (l .met) in
+    let e : t .last .0 ≡ all (a .w) (a .y) (a .before) o (s .pre .0 .0) (l .x) i u (l .inv .3) (l .inv .4) (n .ensures) .map = ap (λ (v : State). v .map) (t .ensures) in (
+      up-turn _ _ _ (t .ensures ∙ made (a .w) (a .y) (a .before) o (s .pre .0 .0) (l .x) i u (l .inv .3) (l .inv .4) (n .ensures)) (l .inv .0),
+      omega arith,
+      t .kept .0 ∙ l .inv .2,
+      rw e (next-left (a .w) (a .y) (a .before) o (s .pre .0 .0) (l .x) i u (l .inv .3) (l .inv .4) (n .ensures)),
+      rw e (next-mid (a .w) (a .y) (a .before) o (s .pre .0 .0) (l .x) i u (l .inv .3) (l .inv .4) (n .ensures)),
+    )
+
+returns : tie.Need-returns Inv-loop μ-loop
+unfolding fromRow
+returns c =
+    let l = c .before in
+    let s = l .before .before .before .before in
+    let n : l .loop .x ≡ s .args .w = omega arith in
+    simp (n, toZ-ofZ, s .fits .o) at (l .loop .inv .0)
 
 pub from-three-spec : {M : Type 1} → statement M
 from-three-spec =
     tie.close
     (tie.spec
+    Inv-loop
+    μ-loop
+    (λ c. search needs)
+    (λ c κs. search needs)
+    (λ c κs. search needs)
+    loop-holds
+    (λ c. search needs)
     (λ c κs. search needs)
     (λ c. search needs)
     (λ c. search needs)
+    three-requires
     (λ c. search needs)
     (λ c. search needs)
-    take-requires
-    from-right-requires
+    loop-again
     (λ c. search needs)
     returns)

@@ -12,7 +12,7 @@ use Rattle.raster.specs.LoopLaws.{down-turn}
 use Rattle.raster.specs.Pixels.{index}
 use Rattle.scan.specs.Scan.{State, state, take, leftward}
 use Rattle.scan.specs.Holding.{Holds}
-use Rattle.scan.proofs.Carried.{carried-short, carried}
+use Rattle.scan.proofs.Offer.{holds-told}
 use Rattle.scan.proofs.leftward.Statement.{statement}
 use Rattle.scan.proofs.leftward.Tie as tie
 
@@ -31,14 +31,15 @@ loop-holds : tie.Need-loop-holds Inv-loop μ-loop
 loop-holds c = (rw (c .read .ensures .1), omega arith, refl, c .read .ensures .0)
 
 relax-requires : tie.Need-relax-requires Inv-loop μ-loop
-relax-requires c κs = (search needs, (carried-short (c .before .before .before .before .loop .inv .3), (omega arith, omega arith)))
+relax-requires c κs = (search needs, (c .before .before .loop .inv .3 .sized, omega arith))
 
 loop-again : tie.Need-loop-again Inv-loop μ-loop
 loop-again c =
-    let l = c .before .before .before .before .before .before .loop in
+    let l = c .before .before .before .before .loop in
     let r = c .before .relax in
     let n : l .x ≡ l .x - 1 + 1 = omega arith in
-    (down-turn _ _ _ (omega arith) (carried (rw n at (l .inv .3)) _ _ _ (r .ensures .0) (r .ensures .1 .1)) (l .inv .0), omega arith, r .kept .0 ∙ l .inv .2, r .ensures .1 .0)
+    let h = rw n at (l .inv .3) in
+    (down-turn _ _ _ (omega arith) (r .ensures .0 ∙ holds-told _ _ _ _ (state (l .map) (l .last .over)) (h .dx) (h .dy)) (l .inv .0), omega arith, r .kept .0 ∙ l .inv .2, r .ensures .1)
 
 returns : tie.Need-returns Inv-loop μ-loop
 unfolding leftward descend

@@ -1,104 +1,110 @@
--- `scan::relax` meets its contract. The lemmas say what each call hands back, of the map's own numbers. Out of the range nothing changes; else what is
--- written is what `offer` makes of the map (`written`), and the vector at the pixel is what was written there.
+-- `scan::relax` meets its contract. The lemmas say what the calls hand back; then each arm is `offered-out` or `offered-in`, and what stands at the
+-- pixel after it is what was written there or what stood there before.
 -- Assumes nothing.
-use mathlib.Core.Path.{_≡_, sym, ap, ap₂, _∙_}
-use mathlib.Core.Bool.{Bool, not, _&&_, _||_}
-use lib.IntN.{_+ℤ_}
+use mathlib.Core.Path.{_≡_, refl, sym, ap, _∙_}
+use mathlib.Core.Bool.{Bool, true, false, not, _&&_, _||_}
+use lib.IntN.{pos, _+ℤ_, +ℤ-idr}
 use mir.Syntax.{w32}
 use mir.Val.{toZ, ofZ}
 use mir.ValLaws.{toZ-ofZ}
-use Rattle.raster.specs.Map.{dxAt, dyAt}
-use Rattle.raster.specs.MapLaws.{put-dx, put-dy}
-use borrow.Author.Tests.{not-true, not-false}
-use Rattle.scan.specs.Candidate.{allowed}
-use Rattle.scan.proofs.Offer.{out-offer, out-overs, in-overs, Written, written}
 use borrow.Author.Needs.{needs}
+use borrow.Author.Tests.{not-true, not-false, lt-ltb, le-ltb}
+use Rattle.raster.specs.Vector.{size, inRange}
+use Rattle.scan.specs.declared.Held.{Held}
+use Rattle.scan.specs.Candidate.{allowed}
+use Rattle.scan.specs.Holding.{Offered}
+use Rattle.scan.proofs.Carried.{fits-dx, fits-dy}
+use Rattle.scan.proofs.Offer.{offered-out, offered-in, put-kept, held, written-first, written-next, written-last}
 use Rattle.scan.proofs.relax.Statement.{statement}
 use Rattle.scan.proofs.relax.Tie as tie
 
-abbrev start : tie.After-dy-at → tie.Start
-start c = c .before .before .before .before .before .before
+tested : (c : tie.After-is-allowed) → let a = c .before .before .before .args in c .is-allowed .result ≡ inRange (a .n .dx +ℤ a .o) && inRange (a .n .dy)
+tested c = simp (toZ-ofZ, c .before .before .before .fits .o) at (c .is-allowed .ensures)
 
--- what the calls hand back, as the next one reads it
-cx-is : (c : tie.After-dy-at) → toZ w32 (ofZ w32 (c .before .before .before .before .before .shifted .result)) ≡ start c .args .nx +ℤ start c .args .ox
-cx-is c =
-    let f = c .before .before .before .before .before .shifted in
-    toZ-ofZ w32 _ (record { sfits = f .ok }) ∙ (simp (toZ-ofZ, start c .fits .nx, start c .fits .ox) at (f .ensures .0))
+allowed-is : (c : tie.After-is-allowed) → let a = c .before .before .before .args in c .is-allowed .result ≡ allowed (a .n .dx) (a .n .dy) (a .o) (pos 0)
+allowed-is c = rw (+ℤ-idr (c .before .before .before .args .n .dy)) (tested c)
 
-cy-is : (c : tie.After-dy-at) → toZ w32 (ofZ w32 (c .before .before .before .before .shifted2 .result)) ≡ start c .args .ny +ℤ start c .args .oy
-cy-is c =
-    let f = c .before .before .before .before .shifted2 in
-    toZ-ofZ w32 _ (record { sfits = f .ok }) ∙ (simp (toZ-ofZ, start c .fits .ny, start c .fits .oy) at (f .ensures .0))
-
-dx-is : (c : tie.After-dy-at) → toZ w32 (ofZ w32 (c .before .before .dx-at .result)) ≡ dxAt (start c .args .map .now) (start c .args .at)
-dx-is c = toZ-ofZ w32 _ (record { sfits = c .before .before .dx-at .ok }) ∙ c .before .before .dx-at .ensures .0
-
-dy-is : (c : tie.After-dy-at) → toZ w32 (ofZ w32 (c .dy-at .result)) ≡ dyAt (start c .args .map .now) (start c .args .at)
-dy-is c = toZ-ofZ w32 _ (record { sfits = c .dy-at .ok }) ∙ c .dy-at .ensures .0
-
-allowed-is : (c : tie.After-in-range2) → let a = start (c .before .before) .args in c .before .in-range .result && c .in-range2 .result ≡ allowed (a .nx) (a .ny) (a .ox) (a .oy)
-allowed-is c =
-    let d = c .before .before in
-    ap₂ _&&_ (rw (cx-is d) at (c .before .in-range .ensures)) (rw (cy-is d) at (c .in-range2 .ensures))
-
--- a candidate that is out of the range
+-- a candidate out of the range
 returns : tie.Need-returns
 returns c =
-    let t = c .before .before in
-    let d = t .before .before in
-    let s = start d in
+    let t = c .before .before .before .before .before in
+    let h = t .before .before .read .ensures in
+    let s = t .before .before .before .before in
     let a = s .args in
-    let e = sym (allowed-is t) ∙ not-true _ (c .before .if1 .taken) in (
-      out-offer (a .nx) (a .ny) (a .ox) (a .oy) (a .at) (a .map .now) e,
-      (
-        record {
-          dx = dx-is d;
-          dy = dy-is d;
-          short-dx = rw (toZ-ofZ w32 _ (record { sfits = d .before .before .dx-at .ok })) (d .before .before .dx-at .ensures .1);
-          short-dy = rw (toZ-ofZ w32 _ (record { sfits = d .dy-at .ok })) (d .dy-at .ensures .1);
-        },
-        rw (out-overs (a .nx) (a .ny) (a .ox) (a .oy) e) (ap (λ (u : Bool). not u || a .over) (simp (toZ-ofZ, s .fits .nx, s .fits .ny) at (c .is-unlabelled .ensures))),
-      ),
-    )
+    let n = s .pre .1 .0 in
+    let dx = toZ-ofZ w32 _ (fits-dx (h .0 .sized)) in
+    let dy = toZ-ofZ w32 _ (fits-dy (h .0 .sized)) in
+    let o = offered-out (t .before .before .read .result) (a .n .dx) (a .n .dy) (a .o) (pos 0) (h .0 .sized) (sym (allowed-is (t .before)) ∙ not-true _ (t .if1 .taken)) dx dy refl
+    (ap (λ (u : Bool). not u || t .before .before .read .result .over) (simp (toZ-ofZ, fits-dx n, fits-dy n) at (c .before .before .is-unlabelled .ensures))) in
+    let v = written-next (a .at) (a .map .now) (a .n .dx) (a .n .dy) (a .o) (pos 0) (s .pre .0) (written-first (a .at) (a .map .now) (h .0) (h .1)) o in
+    (written-last (a .at) (a .map .now) v (put-kept (a .at) (a .map .now) (dx ∙ h .0 .dx) (dy ∙ h .0 .dy)), record { dx = dx ∙ h .0 .dx; dy = dy ∙ h .0 .dy; sized = v .sized })
 
--- one in the range: what is written is right
-writes : (c : tie.After-pick2) → let a = start (c .before .before .before .before .before .before) .args in
-    Written (a .nx) (a .ny) (a .ox) (a .oy) (a .at) (a .map .now) (toZ w32 (ofZ w32 (c .before .pick .result))) (toZ w32 (ofZ w32 (c .pick2 .result)))
-writes c =
-    let t = c .before .before in
-    let d = t .before .before .before .before in
-    let s = start d in
+-- one in the range
+size-after-requires : tie.Need-size-after-requires
+size-after-requires c κs =
+    let s = c .before .before .before .before in
+    simp (toZ-ofZ, s .fits .o) (s .pre .1 .0 .own, (s .pre .1 .1, sym (tested (c .before)) ∙ not-false _ (c .if1 .left)))
+
+in-range : (c : tie.Else1) → let a = c .before .before .before .before .args in allowed (a .n .dx) (a .n .dy) (a .o) (pos 0) ≡ true
+in-range c = sym (allowed-is (c .before)) ∙ not-false _ (c .if1 .left)
+
+size-is : (c : tie.After-size-after) → let a = c .before .before .before .before .before .args in c .size-after .result ≡ size (a .n .dx +ℤ a .o) (a .n .dy +ℤ pos 0)
+size-is c =
+    let s = c .before .before .before .before .before in
+    rw (+ℤ-idr (s .args .n .dy)) (simp (toZ-ofZ, s .fits .o) at (c .size-after .ensures))
+
+-- the candidate as the code has it
+abbrev candidate : tie.After-shifted → Held
+candidate c =
+    let z = c .before .before .before .before in record {
+      dx = toZ w32 (ofZ w32 (c .shifted .result));
+      dy = toZ w32 (ofZ w32 (z .before .before .before .before .before .args .n .dy));
+      size = z .size-after .result;
+      over = z .before .before .before .read .result .over;
+    }
+
+-- it is smaller
+smaller : (c : tie.After-shifted) → let r = c .before .before .before .before .before .before .before in
+    let a = r .before .before .args in Offered (r .read .result) (a .n .dx) (a .n .dy) (a .o) (pos 0) (candidate c)
+smaller c =
+    let z = c .before .before .before .before in
+    let r = z .before .before .before in
+    let s = r .before .before in
     let a = s .args in
-    let dx = d .before .before .dx-at .ensures in
-    let dy = d .dy-at .ensures in
-    written (a .nx) (a .ny) (a .ox) (a .oy) (a .at) (a .map .now) (t .takes-over .result) (s .pre .1 .1 .0)
-    (rw (dx .0) at (dx .1))
-    (rw (dy .0) at (dy .1))
-    (rw (dx-is d, dy-is d, cx-is d, cy-is d) at (t .takes-over .ensures))
-    (toZ-ofZ w32 _ (record { sfits = c .before .pick .ok }) ∙ (rw (cx-is d, dx-is d) at (c .before .pick .ensures)))
-    (toZ-ofZ w32 _ (record { sfits = c .pick2 .ok }) ∙ (rw (cy-is d, dy-is d) at (c .pick2 .ensures)))
+    let n = s .pre .1 .0 in
+    offered-in (r .read .result) (a .n .dx) (a .n .dy) (a .o) (pos 0) (r .read .ensures .0 .sized) (s .pre .1 .1) (in-range (z .before)) true
+    (rw (← size-is z) (sym (lt-ltb _ _ (c .before .before .if2 .taken))))
+    (toZ-ofZ w32 _ (record { sfits = c .shifted .ok }) ∙ (simp (toZ-ofZ, fits-dx n, s .fits .o) at (c .shifted .ensures .0)))
+    (toZ-ofZ w32 _ (fits-dy n) ∙ sym (+ℤ-idr (a .n .dy)))
+    (size-is z)
+    refl
 
 put-at-requires : tie.Need-put-at-requires
-put-at-requires c κs = (search needs, (writes (c .before) .short-x, writes (c .before) .short-y))
+put-at-requires c κs = let v = smaller (c .before .before) .sized in (search needs, (v .short-dx, v .short-dy))
 
 returns-2 : tie.Need-returns-2
 returns-2 c =
-    let p = c .before .before .before in
-    let i = p .before .before .before in
-    let s = start (i .before .before .before) in
+    let p = c .before .before .before .before .before in
+    let r = p .before .before .before .before .before .before .before in
+    let s = r .before .before in
     let a = s .args in
-    let e = c .before .put-at .ensures in (
-      e ∙ writes p .made,
-      (
-        record {
-          dx = rw e (sym (put-dx (a .at) _ _ (a .map .now) (s .pre .0)));
-          dy = rw e (sym (put-dy (a .at) _ _ (a .map .now) (s .pre .0)));
-          short-dx = writes p .short-x;
-          short-dy = writes p .short-y;
-        },
-        rw (in-overs (a .nx) (a .ny) (a .ox) (a .oy) (sym (allowed-is (i .before)) ∙ not-false _ (i .if1 .left))),
-      ),
-    )
+    let h = r .read .ensures in
+    let e = c .before .before .put-at .ensures in
+    let v = written-next (a .at) (a .map .now) (a .n .dx) (a .n .dy) (a .o) (pos 0) (s .pre .0) (written-first (a .at) (a .map .now) (h .0) (h .1)) (smaller p) in
+    (written-last (a .at) (a .map .now) v e, rw e (held (a .at) (a .map .now) (s .pre .0) (v .sized)))
+
+-- it is not
+returns-3 : tie.Need-returns-3
+returns-3 c =
+    let z = c .before .before in
+    let r = z .before .before .before in
+    let s = r .before .before in
+    let a = s .args in
+    let h = r .read .ensures in
+    let o = offered-in (r .read .result) (a .n .dx) (a .n .dy) (a .o) (pos 0) (h .0 .sized) (s .pre .1 .1) (in-range (z .before)) false
+    (rw (← size-is z) (sym (le-ltb _ _ (c .if2 .left)))) refl refl refl refl in
+    let v = written-next (a .at) (a .map .now) (a .n .dx) (a .n .dy) (a .o) (pos 0) (s .pre .0) (written-first (a .at) (a .map .now) (h .0) (h .1)) o in
+    (written-last (a .at) (a .map .now) v (put-kept (a .at) (a .map .now) (h .0 .dx) (h .0 .dy)), h .0)
 
 pub relax-spec : {M : Type 1} → statement M
 relax-spec =
@@ -107,15 +113,12 @@ relax-spec =
     (λ c κs. search needs)
     (λ c κs. search needs)
     (λ c κs. search needs)
-    (λ c κs. search needs)
-    (λ c κs. search needs)
-    (λ c κs. search needs)
-    (λ c κs. search needs)
     (λ c. search needs)
     returns
-    (λ c κs. search needs)
-    (λ c κs. search needs)
+    size-after-requires
     (λ c κs. search needs)
     put-at-requires
     (λ c. search needs)
-    returns-2)
+    returns-2
+    (λ c. search needs)
+    returns-3)

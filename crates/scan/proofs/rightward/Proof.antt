@@ -13,7 +13,7 @@ use Rattle.raster.specs.LoopLaws.{up-turn}
 use Rattle.raster.specs.Pixels.{index}
 use Rattle.scan.specs.Scan.{State, state, take, rightward}
 use Rattle.scan.specs.Holding.{Holds}
-use Rattle.scan.proofs.Carried.{carried-short, carried}
+use Rattle.scan.proofs.Offer.{holds-told}
 use Rattle.scan.proofs.rightward.Statement.{statement}
 use Rattle.scan.proofs.rightward.Tie as tie
 
@@ -33,13 +33,13 @@ unfolding ascend
 loop-holds c = (rw (c .read .ensures .1), omega arith, refl, rw add-zero (c .read .ensures .0))
 
 relax-requires : tie.Need-relax-requires Inv-loop μ-loop
-relax-requires c κs = (search needs, (carried-short (c .before .before .before .before .loop .inv .3), (omega arith, omega arith)))
+relax-requires c κs = (search needs, (c .before .before .loop .inv .3 .sized, omega arith))
 
 loop-again : tie.Need-loop-again Inv-loop μ-loop
 loop-again c =
-    let l = c .before .before .before .before .before .before .loop in
+    let l = c .before .before .before .before .loop in
     let r = c .before .relax in
-    (up-turn _ _ _ (carried (l .inv .3) _ _ _ (r .ensures .0) (r .ensures .1 .1)) (l .inv .0), omega arith, r .kept .0 ∙ l .inv .2, r .ensures .1 .0)
+    (up-turn _ _ _ (r .ensures .0 ∙ holds-told _ _ _ _ (state (l .map) (l .last .over)) (l .inv .3 .dx) (l .inv .3 .dy)) (l .inv .0), omega arith, r .kept .0 ∙ l .inv .2, r .ensures .1)
 
 returns : tie.Need-returns Inv-loop μ-loop
 unfolding rightward

@@ -1,22 +1,29 @@
--- `scan::take` meets its contract: what `relax` makes of the vector that was read is what `take` makes of the pixel (`carried`).
+-- `scan::take` meets its contract: one candidate is one write, and that of the vector that was read is that of the neighbour's pixel.
 -- Assumes nothing.
+use mathlib.Core.Path.{_∙_}
+use lib.IntN.{pos, _-ℤ_}
 use mir.ValLaws.{toZ-ofZ}
 use borrow.Author.Needs.{needs}
-use Rattle.scan.proofs.Carried.{carried-short, carried}
+use Rattle.scan.specs.Scan.{state}
+use Rattle.scan.proofs.Carried.{fits-dx, fits-dy}
+use Rattle.scan.proofs.Offer.{written-first, written-next, written-last, holds-told}
 use Rattle.scan.proofs.take.Statement.{statement}
 use Rattle.scan.proofs.take.Tie as tie
 
-relax-requires : tie.Need-relax-requires
-relax-requires c κs =
-    let s = c .before .before .before .before .before in
-    (search needs, (carried-short (c .before .before .before .read .ensures .0), simp (toZ-ofZ, s .fits .ox, s .fits .oy) (s .pre .1)))
-
 returns : tie.Need-returns
 returns c =
-    let r = c .before .before .before .before .before in
-    let s = r .before .before in
-    let e = simp (toZ-ofZ, s .fits .ox, s .fits .oy) at (c .before .relax .ensures) in
-    rw (← r .read .ensures .1) (carried (r .read .ensures .0) _ _ _ (e .0) (e .1 .1))
+    let b = c .before .before .before .before .before in
+    let d = b .before .read in
+    let n = b .before .before .before .ahead in
+    let s = b .before .before .before .before .before in
+    let a = s .args in
+    let o = simp (toZ-ofZ, s .fits .o) at (b .better .ensures) in
+    let h = simp (toZ-ofZ, s .fits .o) at (n .ensures) in
+    let v = written-next (a .at) (a .map .now) (n .result .dx) (n .result .dy -ℤ a .o) (pos 0) (a .o) (s .pre .0 .0) (written-first (a .at) (a .map .now) (d .ensures .0) (d .ensures .1)) o in
+    written-last (a .at) (a .map .now) v (simp (toZ-ofZ, fits-dx (v .sized), fits-dy (v .sized)) at (c .before .put-at .ensures))
+    ∙ holds-told (a .at) (a .from) (pos 0) (a .o) (state (a .map .now) (a .over)) (h .dx) (h .dy)
 
 pub take-spec : {M : Type 1} → statement M
-take-spec = tie.close (tie.spec (λ c κs. search needs) relax-requires (λ c. search needs) returns)
+take-spec =
+    tie.close
+    (tie.spec (λ c κs. search needs) (λ c κs. search needs) (λ c κs. search needs) (λ c κs. search needs) (λ c. search needs) returns)
