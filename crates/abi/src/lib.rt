@@ -8,6 +8,7 @@ ghost use Rattle.raster.specs.Map.{unmapped};
 ghost use Rattle.exact.specs.Nearest.{exactMap, cleared};
 ghost use Rattle.morphology.specs.Resize.{expanded, shrunk};
 ghost use Rattle.scan.specs.Scan.{state, scanned};
+ghost use Rattle.skeleton.specs.Skeleton.{skeletonOf, rebuilt};
 
 // The map by 8SED (`corners`) or 4SED; true if a candidate left the range of ±2,047.
 #[no_mangle]
@@ -65,4 +66,23 @@ pub extern "C" fn abi_shrink(
     ensures { λ _. ⌜ now (scratch .exit) ≡ cleared (h * w) (now (scratch .entry)) ⌝ }
 {
     morphology::shrink(sheet, map, scratch, w, h, q);
+}
+
+// The pixels of a map that its skeleton keeps, as 1.
+#[no_mangle]
+pub extern "C" fn abi_skeleton(map: &[i16], out: &mut [u8], w: usize, h: usize)
+    requires { ⌜ (length (now map) ≡ 2 * (h * w)) × (length (now out) ≡ h * w) ⌝ }
+    ensures { λ _. ⌜ now (out .exit) ≡ skeletonOf (now (map .entry)) w h ⌝ }
+{
+    skeleton::skeleton(map, out, w, h);
+}
+
+// The pixels that the disks of the marked pixels reach, as 1.
+#[no_mangle]
+pub extern "C" fn abi_rebuild(map: &[i16], marks: &[u8], out: &mut [u8], w: usize, h: usize)
+    requires { ⌜ (w ≤ 2048) × (h ≤ 2048) ⌝ }
+    requires { ⌜ (length (now map) ≡ 2 * (h * w)) × ((length (now marks) ≡ h * w) × (length (now out) ≡ h * w)) ⌝ }
+    ensures { λ _. ⌜ now (out .exit) ≡ rebuilt (now (map .entry)) w h (now (marks .entry)) ⌝ }
+{
+    skeleton::rebuild(map, marks, out, w, h);
 }

@@ -5,15 +5,15 @@ use mathlib.Core.Bool.{Bool, true, false, true≢false, cond}
 use Prim.Native.Nat.{ℕ, zero, suc, _+_, _*_, _-_, _<_, _≤_}
 use native.Mathlib.Nat.{mul-le-mul}
 use native.Mathlib.Omega.{arith}
-use lib.Dec.{ltb}
+use lib.Dec.{eqb, ltb}
 use lib.IntN.{ℤ, pos, negsuc, negℤ, natAbs, _+ℤ_, _-ℤ_}
 use lib.Signed.{ltZ, leZ}
-use mir.Syntax.{w32}
-use mir.Val.{SFits}
-use borrow.Author.Tests.{ltb-true}
+use mir.Syntax.{w16, w32}
+use mir.Val.{SFits, ofZ}
+use borrow.Author.Tests.{ltb-true, ne-eqb}
 use Rattle.raster.specs.Vector.{Short, mark, isMark}
 use Rattle.raster.proofs.Signed.{widen, short-wide}
-use Rattle.exact.specs.Ways.{farther, shorter, costOf, Room}
+use Rattle.exact.specs.Ways.{farther, shorter, costOf, Room, isZero}
 
 -- 32 bits hold a component
 pub short-fits : (z : ℤ) → Short z → SFits w32 z
@@ -25,7 +25,7 @@ pub farther-none : (v : ℤ) → ltZ v (pos 0) ≡ true → negsuc 0 ≡ farther
 farther-none (pos n) e = absurd (omega (arith, ltb-true n 0 e))
 farther-none (negsuc n) e = refl
 
-pub farther-some : (v : ℤ) → ltZ v (pos 0) ≡ false → Room v → (v +ℤ pos 1 ≡ farther false v) × Short (v +ℤ pos 1)
+pub farther-some : (v : ℤ) → ltZ v (pos 0) ≡ false → Room v → (v +ℤ pos 1 ≡ farther false v) × SFits w16 (v +ℤ pos 1)
 farther-some (pos n) e r = (refl, omega arith)
 farther-some (negsuc n) e r = absurd (true≢false e)
 
@@ -51,10 +51,16 @@ shorter-both (negsuc u) d t e f g = absurd (true≢false e)
 shorter-both (pos u) (negsuc d) t e f g = absurd (true≢false f)
 shorter-both (pos u) (pos d) t e f g = rw g
 
-pub minus-short : (u : ℤ) → ltZ u (pos 0) ≡ false → Short u → Short (negℤ u)
-minus-short (pos zero) e s = omega arith
-minus-short (pos (suc n)) e s = omega arith
-minus-short (negsuc n) e s = absurd (true≢false e)
+pub minus-fits : (u : ℤ) → ltZ u (pos 0) ≡ false → SFits w16 u → SFits w16 (negℤ u)
+minus-fits (pos zero) e s = omega arith
+minus-fits (pos (suc n)) e s = omega arith
+minus-fits (negsuc n) e s = absurd (true≢false e)
+
+-- ---- 0, by its bits
+
+pub zero-bits : (z : ℤ) → SFits w16 z → eqb (ofZ w16 z) 0 ≡ isZero z
+zero-bits (pos n) f = refl
+zero-bits (negsuc n) f = ne-eqb (65536 - suc n) 0 (omega arith)
 
 -- ---- what a column costs
 

@@ -1,24 +1,21 @@
 -- The two passes over the rows: how each starts, one row more, how it ends. A row is one step farther than the row before it, and a way is never longer
 -- than the line.
 -- Assumes nothing.
-use mathlib.Core.Path.{_≡_, refl, ap, _∙_}
-use mathlib.Core.Bool.{Bool, true, false, cond}
+use mathlib.Core.Path.{_≡_, refl, ap, ap₂, _∙_}
+use mathlib.Core.Bool.{Bool, true, false}
 use mathlib.Core.List.{List}
 use Prim.Native.Nat.{ℕ, zero, suc, _+_, _*_, _-_, _<_, _≤_}
 use native.Mathlib.Decide.{decLt}
-use native.Mathlib.Nat.{add-zero}
+use native.Mathlib.Nat.{mul-le-mul-right}
+use native.Mathlib.Numerals.{add-one}
 use native.Mathlib.Omega.{arith}
-use lib.Dec.{eqb}
 use lib.IntN.{ℤ, pos, negsuc}
 use lib.ListN.{length, getD}
 use lib.Signed.{mag}
-use borrow.Author.Tests.{ne-eqb, eqb-false}
+use borrow.Author.Tests.{ne-eqb}
 use Rattle.raster.specs.Pixels.{Mask, index}
-use Rattle.raster.specs.PixelsLaws.{index-one}
-use Rattle.raster.specs.Map.{dxAt, dyAt}
-use Rattle.raster.specs.Tests.{same-test}
-use Rattle.exact.specs.Ways.{farther, far, up, down, Room, Spread, Risen, Fallen}
-use Rattle.exact.proofs.Spreading.{place-one}
+use Rattle.raster.specs.PixelsLaws.{index-inside}
+use Rattle.exact.specs.Ways.{farther, far, up, down, shorter, Room, isZero, metal, shortened, Spread, Held}
 
 -- ---- a line
 
@@ -27,102 +24,130 @@ farther-mag true v n h = omega arith
 farther-mag false (pos a) n h = omega arith
 farther-mag false (negsuc a) n h = omega arith
 
-far-mag : (line : ℕ → Bool) (t : ℕ) → mag (far line t) ≤ t
-unfolding far
-far-mag line zero = first (line 0)
-  where
-    first : (t : Bool) → mag (farther t (negsuc 0)) ≤ 0
-    first true = omega arith
-    first false = omega arith
-far-mag line (suc t) = omega (arith, farther-mag (line (suc t)) (far line t) t (far-mag line t))
+-- the value of the place before the t-th one, and −1 before the first
+abbrev pub back : (line : ℕ → Bool) (t : ℕ) → ℤ
+back line zero = negsuc 0
+back line (suc t) = far line t
 
--- what a place of the line is worked out from: the value of the place before, and −1 at the first
 module _ (line : ℕ → Bool) where
-  before : (t : ℕ) (v : ℤ) → (0 < suc t → v ≡ far line (suc t - 1)) → cond (eqb (suc t) 0) (negsuc 0) v ≡ far line t
-  before t v on = let e : suc t - 1 ≡ t = omega arith in rw (ne-eqb (suc t) 0 (omega arith), ← e) (on (omega arith))
-
-  far-next : (t : ℕ) (v : ℤ) → (0 < t → v ≡ far line (t - 1)) → farther (line t) (cond (eqb t 0) (negsuc 0) v) ≡ far line t
+  far-next : (t : ℕ) → farther (line t) (back line t) ≡ far line t
   unfolding far
-  far-next zero v on = refl
-  far-next (suc t) v on = ap (farther (line (suc t))) (before t v on)
+  far-next zero = refl
+  far-next (suc t) = refl
 
-  far-room : (t : ℕ) (v : ℤ) → t ≤ 2048 → (0 < t → v ≡ far line (t - 1)) → Room (cond (eqb t 0) (negsuc 0) v)
-  far-room zero v h on = omega arith
-  far-room (suc t) v h on = rw (before t v on) (omega (arith, far-mag line t))
+  back-mag : (t : ℕ) → mag (back line t) ≤ t
+  back-mag zero = omega arith
+  back-mag (suc t) = rw (← far-next t) (omega (arith, farther-mag (line t) (back line t) t (back-mag t)))
+
+  -- the way is 0 on copper alone
+  far-zero : (t : ℕ) → isZero (far line t) ≡ line t
+  far-zero t = rw (← far-next t) (go (line t) (back line t))
+    where
+      go : (b : Bool) (v : ℤ) → isZero (farther b v) ≡ b
+      go true v = refl
+      go false (pos n) = ne-eqb (n + 1) 0 (omega arith)
+      go false (negsuc n) = refl
+
+far-same : (a b : ℕ → Bool) (t : ℕ) → ((j : ℕ) → j ≤ t → a j ≡ b j) → far a t ≡ far b t
+unfolding far
+far-same a b zero same = rw (same 0 (omega arith))
+far-same a b (suc t) same = ap₂ farther (same (suc t) (omega arith)) (far-same a b t (λ j l. same j (omega arith)))
 
 -- ---- downwards: the ways upwards
 
-module _ {copper : Mask} {w : ℕ} {m : List ℤ} where
-  pub risen-none : Risen copper w 0 m m
-  risen-none = record { long = refl; ups = λ x y h l. absurd (omega arith) }
+-- the first y rows are done, and `near` has the ways of the row above row y
+pub record Sunk (copper : Mask) (w : ℕ) (ways near : List ℤ) (y : ℕ) (ways′ near′ : List ℤ) : Type 0 where
+  pub held : Held w y (up copper) ways ways′
+  pub near-long : length near′ ≡ length near
+  pub line : (x : ℕ) → x < w → getD near′ x (pos 0) ≡ back (copper x) y
 
-  module _ {y r : ℕ} {n : List ℤ} (s : Risen copper w y m n) (above : r ≡ y - 1) where
-    risen-read : (x : ℕ) → x < w → 0 < y → getD n (2 * index w x r + 0) (pos 0) ≡ far (copper x) (y - 1)
-    risen-read x l p = rw (above, add-zero) (s .ups x (y - 1) l (omega arith))
+module _ {copper : Mask} {w : ℕ} {ways near : List ℤ} where
+  pub sunk-none : ((x : ℕ) → x < w → getD near x (pos 0) ≡ negsuc 0) → Sunk copper w ways near 0 ways near
+  sunk-none h = record { held = record { long = refl; at = λ x y a b. absurd (omega arith) }; near-long = refl; line = h }
 
-    pub risen-room : y ≤ 2048 → (x : ℕ) → x < w → Room (cond (eqb y 0) (negsuc 0) (getD n (2 * index w x r + 0) (pos 0)))
-    risen-room h x l = far-room (copper x) y (getD n (2 * index w x r + 0) (pos 0)) h (risen-read x l)
+  module _ {y : ℕ} {ways′ near′ : List ℤ} (s : Sunk copper w ways near y ways′ near′) where
+    pub sunk-room : y ≤ 2048 → (x : ℕ) → x < w → Room (getD near′ x (pos 0))
+    sunk-room h x l = rw (s .line x l) (omega (arith, back-mag (copper x) y))
 
-    pub risen-more : {o : List ℤ} → Spread copper w 0 y (λ x. cond (eqb y 0) (negsuc 0) (getD n (2 * index w x r + 0) (pos 0))) n o
-        → Risen copper w (y + 1) m o
-    risen-more {o} p = record {
-      long = p .long ∙ s .long;
-      ups = λ x z h l. elim (decLt z y) [
-        | yes k ↦ p .rest (2 * index w x z) (λ a j e. absurd (omega (arith, index-one w x z a y h j (omega arith) .1))) ∙ s .ups x z h k
-        | no k ↦ let e : z ≡ y = omega arith in rw e (here x h)
-      ];
+    pub sunk-more : {ways″ near″ : List ℤ} → Spread (y * w) w (λ x. copper x y) (λ x v. v) ways′ near′ ways″ near″
+        → Sunk copper w ways near (y + 1) ways″ near″
+    sunk-more {ways″} {near″} p = record {
+      held = record {
+        long = p .long ∙ s .held .long;
+        at = λ x z a b. elim (decLt z y) [
+          | yes k ↦ p .under (index w x z) (index-inside w x z a y k) ∙ s .held .at x z a k
+          | no k ↦ let e : z ≡ y = omega arith in rw e (p .here x a ∙ next x a)
+        ];
+      };
+      near-long = p .near-long ∙ s .near-long;
+      line = λ x a. rw add-one (next x a);
     }
       where
-        here : (x : ℕ) → x < w → dxAt o (index w x y) ≡ up copper x y
-        here x l =
-            ap (λ (i : ℕ). getD o i (pos 0)) (omega arith) ∙ p .here x l ∙ far-next (copper x) y (getD n (2 * index w x r + 0) (pos 0)) (risen-read x l)
+        next : (x : ℕ) → x < w → getD near″ x (pos 0) ≡ up copper x y
+        next x a = p .steps x a ∙ ap (farther (copper x y)) (s .line x a) ∙ far-next (copper x) y
 
--- ---- upwards: the ways downwards
+-- ---- upwards: the shorter ways
 
--- dy holds the way downwards of every pixel from row y on, dx is as it was
-pub record FallenTo (copper : Mask) (w h : ℕ) (before : List ℤ) (y : ℕ) (after : List ℤ) : Type 0 where
+-- the rows from y on are done, those above are as they were, and `near` has the ways downwards of row y
+pub record Risen (w h : ℕ) (ups near : List ℤ) (y : ℕ) (ways′ near′ : List ℤ) : Type 0 where
   pub on : y ≤ h
-  pub long : length after ≡ length before
-  pub downs : (x z : ℕ) → x < w → y ≤ z → z < h → dyAt after (index w x z) ≡ down copper h x z
-  pub kept : (p : ℕ) → dxAt after p ≡ dxAt before p
+  pub long : length ways′ ≡ length ups
+  pub near-long : length near′ ≡ length near
+  pub at : (x z : ℕ) → x < w → y ≤ z → z < h → getD ways′ (index w x z) (pos 0) ≡ shortened ups w h x z
+  pub under : (i : ℕ) → i < y * w → getD ways′ i (pos 0) ≡ getD ups i (pos 0)
+  pub line : (x : ℕ) → x < w → getD near′ x (pos 0) ≡ back (λ t. metal ups w x (h - 1 - t)) (h - y)
 
-module _ {copper : Mask} {w h : ℕ} {m : List ℤ} where
-  pub fallen-none : FallenTo copper w h m h m
-  fallen-none = record { on = omega arith; long = refl; downs = λ x z i j k. absurd (omega arith); kept = λ p. refl }
+module _ {w h : ℕ} {ups near : List ℤ} where
+  pub risen-none : ((x : ℕ) → x < w → getD near x (pos 0) ≡ negsuc 0) → Risen w h ups near h ups near
+  risen-none n = record {
+    on = omega arith;
+    long = refl;
+    near-long = refl;
+    at = λ x z a b c. absurd (omega arith);
+    under = λ i l. refl;
+    line = λ x a. let e : h - h ≡ 0 = omega arith in rw e (n x a);
+  }
 
-  pub fallen-all : {y : ℕ} {n : List ℤ} → FallenTo copper w h m y n → y ≡ 0 → Fallen copper w h m n
-  fallen-all s e = record { long = s .long; downs = λ x z i k. s .downs x z i (omega arith) k; kept = s .kept }
+  module _ {y : ℕ} {ways′ near′ : List ℤ} (s : Risen w h ups near y ways′ near′) where
+    pub risen-room : h ≤ 2048 → (x : ℕ) → x < w → Room (getD near′ x (pos 0))
+    risen-room few x l = rw (s .line x l) (omega (arith, back-mag (λ t. metal ups w x (h - 1 - t)) (h - y)))
 
-  module _ (z : ℕ) {y r : ℕ} {n : List ℤ} (s : FallenTo copper w h m y n) (next : y ≡ z + 1) (below : z + 1 < h → r ≡ z + 1) where
-    -- the flag says that the row is the last one
-    last : eqb (z + 1) h ≡ eqb (h - 1 - z) 0
-    last = same-test (z + 1) h (h - 1 - z) 0 (λ e. omega arith) (λ e. omega (arith, s .on))
+    pub risen-all : y ≡ 0 → Held w h (shortened ups w h) ups ways′
+    risen-all e = record { long = s .long; at = λ x z a b. s .at x z a (omega arith) b }
 
-    fallen-read : (x : ℕ) → x < w → 0 < h - 1 - z → getD n (2 * index w x r + 1) (pos 0) ≡ far (λ t. copper x (h - 1 - t)) (h - 1 - z - 1)
-    fallen-read x l p =
-        let e : h - 1 - z - 1 ≡ h - 1 - (z + 1) = omega arith in
-        rw (below (omega arith), e) (s .downs x (z + 1) l (omega arith) (omega arith))
-
-    pub fallen-apart : eqb (z + 1) h ≡ false → z ≡ r → ⊥
-    fallen-apart e f = let k : z + 1 < h = omega (arith, s .on, eqb-false (z + 1) h e) in omega (arith, below k)
-
-    pub fallen-room : h ≤ 2048 → (x : ℕ) → x < w → Room (cond (eqb (z + 1) h) (negsuc 0) (getD n (2 * index w x r + 1) (pos 0)))
-    fallen-room few x l = rw last (far-room (λ t. copper x (h - 1 - t)) (h - 1 - z) (getD n (2 * index w x r + 1) (pos 0)) (omega arith) (fallen-read x l))
-
-    pub fallen-more : {o : List ℤ} → Spread copper w 1 z (λ x. cond (eqb (z + 1) h) (negsuc 0) (getD n (2 * index w x r + 1) (pos 0))) n o
-        → FallenTo copper w h m z o
-    fallen-more {o} p = record {
+    pub risen-more : (z : ℕ) {ways″ near″ : List ℤ} → y ≡ z + 1
+        → Spread (z * w) w (λ x. isZero (getD ways′ (z * w + x) (pos 0))) (λ x v. shorter (getD ways′ (z * w + x) (pos 0)) v) ways′ near′ ways″ near″
+        → Risen w h ups near z ways″ near″
+    risen-more z {ways″} {near″} n p = record {
       on = omega (arith, s .on);
       long = p .long ∙ s .long;
-      downs = λ x a i j k. elim (decLt z a) [
-        | yes l ↦ p .rest (2 * index w x a + 1) (λ b q e. absurd (omega (arith, place-one w 1 x a b z i q e .1))) ∙ s .downs x a i (omega arith) k
-        | no l ↦ let e : a ≡ z = omega arith in rw e (here x i)
+      near-long = p .near-long ∙ s .near-long;
+      at = λ x a i j k. elim (decLt z a) [
+        | yes l ↦ p .over (index w x a) (omega (arith, mul-le-mul-right w l)) ∙ s .at x a i (omega arith) k
+        | no l ↦ let e : a ≡ z = omega arith in rw e (p .here x i ∙ ap₂ shorter (same x i) (next x i))
       ];
-      kept = λ q. p .rest (2 * q) (λ b l e. omega arith) ∙ s .kept q;
+      under = λ i l. p .under i l ∙ s .under i (omega (arith, ap (λ (t : ℕ). t * w) n));
+      line = λ x a. let e : h - z ≡ suc (h - 1 - z) = omega (arith, s .on) in rw e (next x a);
     }
       where
-        here : (x : ℕ) → x < w → dyAt o (index w x z) ≡ down copper h x z
-        here x l =
+        same : (x : ℕ) → x < w → getD ways′ (z * w + x) (pos 0) ≡ getD ups (index w x z) (pos 0)
+        same x a = s .under (index w x z) (index-inside w x z a y (omega arith))
+
+        next : (x : ℕ) → x < w → getD near″ x (pos 0) ≡ down (metal ups w) h x z
+        next x a =
             let e : h - 1 - (h - 1 - z) ≡ z = omega (arith, s .on) in
-            let f = far-next (λ t. copper x (h - 1 - t)) (h - 1 - z) (getD n (2 * index w x r + 1) (pos 0)) (fallen-read x l) in
-            p .here x l ∙ rw last (rw e at f)
+            let g : h - y ≡ h - 1 - z = omega arith in
+            let f = rw e at (far-next (λ t. metal ups w x (h - 1 - t)) (h - 1 - z)) in
+            p .steps x a ∙ ap₂ (λ (u v : ℤ). farther (isZero u) v) (same x a) (rw g at (s .line x a)) ∙ f
+
+-- ---- both
+
+pub both-passes : (copper : Mask) {w h : ℕ} {m n o : List ℤ} → Held w h (up copper) m n → Held w h (shortened n w h) n o
+    → Held w h (λ x y. shorter (up copper x y) (down copper h x y)) m o
+both-passes copper {w} {h} {m} {n} {o} r s = record {
+  long = s .long ∙ r .long;
+  at = λ x y a b. s .at x y a b ∙ ap₂ shorter (r .at x y a b) (far-same _ _ (h - 1 - y) (λ j l. metal-is x (h - 1 - j) a (omega arith)));
+}
+  where
+    metal-is : (x y : ℕ) → x < w → y < h → metal n w x y ≡ copper x y
+    metal-is x y a b = ap isZero (r .at x y a b) ∙ far-zero (copper x) y

@@ -1,14 +1,13 @@
 -- The map that the code leaves is the exact map: in each row the best site is the column that the definition's run finds.
 -- Assumes nothing.
-use mathlib.Core.Path.{_≡_, refl, ap, ap₂, _∙_}
+use mathlib.Core.Path.{_≡_, refl, ap, _∙_}
 use mathlib.Core.List.{List}
 use Prim.Native.Nat.{ℕ, _*_, _<_, _≤_}
 use native.Mathlib.Omega.{arith}
-use lib.IntN.{ℤ}
+use lib.IntN.{ℤ, pos}
 use lib.ListN.{length, getD}
 use borrow.Author.Tests.{ne-eqb}
 use Rattle.raster.specs.Limits.{maxSide}
-use Rattle.raster.specs.Map.{dxAt, dyAt}
 use Rattle.raster.specs.MapLaws.{vectors-is}
 use Rattle.raster.specs.Pixels.{Mask, index}
 use Rattle.raster.specs.PixelsLaws.{tabulate-at}
@@ -17,15 +16,11 @@ use Rattle.exact.specs.Ways.{up, down, shorter, costOf, wayAt, rowCosts,
 use Rattle.exact.proofs.Columns.{way, way-row, Agree, nothing, some, agree}
 
 module _ (copper : Mask) (w h : ℕ) (wide : w ≤ maxSide) (tall : h ≤ maxSide) (m : List ℤ)
-    (ups : (x y : ℕ) → x < w → y < h → dxAt m (index w x y) ≡ up copper x y)
-    (downs : (x y : ℕ) → x < w → y < h → dyAt m (index w x y) ≡ down copper h x y) where
+    (ways : (x y : ℕ) → x < w → y < h → getD m (index w x y) (pos 0) ≡ shorter (up copper x y) (down copper h x y)) where
   module _ (y : ℕ) (inside : y < h) where
-    ways : (k : ℕ) → k < w → wayAt m (y * w) k ≡ way copper w h wide tall y inside k
-    ways k l = ap₂ shorter (ups k y l inside) (downs k y l inside)
-
     costs : (k : ℕ) → k < w → getD (rowCosts m (y * w) w) k 0 ≡ costOf (way copper w h wide tall y inside k)
     unfolding rowCosts
-    costs k l = tabulate-at w _ k 0 l ∙ ap costOf (ways k l)
+    costs k l = tabulate-at w _ k 0 l ∙ ap costOf (ways k y l inside)
 
     -- the vector to the best site is the one to what the run finds
     vector : (x : ℕ) {f : Found} {b : ℕ} → Agree copper w h wide tall y inside x (rowCosts m (y * w) w) costs w f b
@@ -33,7 +28,7 @@ module _ (copper : Mask) (w h : ℕ) (wide : w ≤ maxSide) (tall : h ≤ maxSid
     vector x nothing = (refl, refl)
     vector x (some k r l best) =
         let e = ne-eqb k 65535 (omega arith) in
-        (rw e, rw e (ways k l ∙ way-row copper w h wide tall y inside k r best))
+        (rw e, rw e (ways k y l inside ∙ way-row copper w h wide tall y inside k r best))
 
   pub solved-exact : (after : List ℤ) → length m ≡ 2 * (h * w) → Solved w h m after → after ≡ exactMap copper w h
   unfolding exactMap nearest

@@ -1,55 +1,64 @@
 -- A row that is spread from the row before it: how it starts, one pixel more, how it ends.
 -- Assumes nothing.
-use mathlib.Core.Path.{_≡_, refl, sym, _∙_}
-use mathlib.Core.Logic.{_≢_}
-use mathlib.Core.Bool.{Bool, true, false, cond}
+use mathlib.Core.Path.{_≡_, refl, _∙_}
+use mathlib.Core.Bool.{Bool}
 use mathlib.Core.List.{List}
-use Prim.Native.Nat.{ℕ, _+_, _*_, _<_, _≤_}
+use Prim.Native.Nat.{ℕ, _+_, _<_, _≤_}
 use native.Mathlib.Decide.{ℕ-discrete}
 use native.Mathlib.Omega.{arith}
-use lib.IntN.{ℤ, pos, negsuc}
+use lib.IntN.{ℤ, pos}
 use lib.ListN.{length, getD, set, length-set}
 use lib.Seq.{getD-set-same, getD-set-other}
-use Rattle.raster.specs.Pixels.{Mask, index}
-use Rattle.raster.specs.PixelsLaws.{index-one}
 use Rattle.exact.specs.Ways.{farther, Spread}
 
--- the first x pixels of row y are one step farther than the values v, and nothing else changes
-pub record SpreadTo (copper : Mask) (w c y : ℕ) (v : ℕ → ℤ) (before : List ℤ) (x : ℕ) (after : List ℤ) : Type 0 where
+-- the first x pixels of the row are spread, and `near` is as it was from there on
+pub record SpreadTo (base w : ℕ) (copper : ℕ → Bool) (made : ℕ → ℤ → ℤ) (ways near : List ℤ) (x : ℕ) (ways′ near′ : List ℤ) : Type 0 where
   pub on : x ≤ w
-  pub long : length after ≡ length before
-  pub here : (z : ℕ) → z < x → getD after (2 * index w z y + c) (pos 0) ≡ farther (copper z y) (v z)
-  pub rest : (i : ℕ) → ((z : ℕ) → z < x → i ≢ 2 * index w z y + c) → getD after i (pos 0) ≡ getD before i (pos 0)
+  pub done : Spread base x copper made ways near ways′ near′
+  pub left : (z : ℕ) → x ≤ z → getD near′ z (pos 0) ≡ getD near z (pos 0)
 
--- two pixels at one place of a component are one pixel
-pub place-one : (w c x y i j : ℕ) → x < w → i < w → 2 * index w x y + c ≡ 2 * index w i j + c → (x ≡ i) × (y ≡ j)
-place-one w c x y i j h k e = index-one w x y i j h k (omega arith)
+module _ {base w : ℕ} {copper : ℕ → Bool} {made : ℕ → ℤ → ℤ} {ways near : List ℤ} where
+  pub spread-none : SpreadTo base w copper made ways near 0 ways near
+  spread-none = record {
+    on = omega arith;
+    done = record {
+      long = refl;
+      near-long = refl;
+      steps = λ z l. absurd (omega arith);
+      here = λ z l. absurd (omega arith);
+      under = λ i l. refl;
+      over = λ i l. refl;
+    };
+    left = λ z l. refl;
+  }
 
-module _ {copper : Mask} {w c y : ℕ} {v : ℕ → ℤ} {m : List ℤ} where
-  pub spread-none : SpreadTo copper w c y v m 0 m
-  spread-none = record { on = omega arith; long = refl; here = λ z l. absurd (omega arith); rest = λ i out. refl }
-
-  module _ {x : ℕ} {n : List ℤ} (s : SpreadTo copper w c y v m x n) where
-    pub spread-more : {z : ℤ} → x < w → 2 * index w x y + c < length n → z ≡ farther (copper x y) (v x)
-        → SpreadTo copper w c y v m (x + 1) (set n (2 * index w x y + c) z)
-    spread-more {z} h i e = record {
+  module _ {x : ℕ} {ways′ near′ : List ℤ} (s : SpreadTo base w copper made ways near x ways′ near′) where
+    pub spread-more : {v z : ℤ} → x < w → base + x < length ways′ → x < length near′ → v ≡ farther (copper x) (getD near x (pos 0)) → z ≡ made x v
+        → SpreadTo base w copper made ways near (x + 1) (set ways′ (base + x) z) (set near′ x v)
+    spread-more {v} {z} h i j e f = record {
       on = omega arith;
-      long = length-set n (2 * index w x y + c) z ∙ s .long;
-      here = λ a l. elim (ℕ-discrete a x) [
-        | yes q ↦ rw q (getD-set-same n (2 * index w x y + c) z (pos 0) i ∙ e)
-        | no q ↦
-            getD-set-other n (2 * index w x y + c) (2 * index w a y + c) z (pos 0) (λ p. q (place-one w c a y x y (omega arith) h p .0)) ∙ s .here a (omega arith)
-      ];
-      rest = λ j out. getD-set-other n (2 * index w x y + c) j z (pos 0) (out x (omega arith)) ∙ s .rest j (λ a l. out a (omega arith));
+      done = record {
+        long = length-set ways′ (base + x) z ∙ s .done .long;
+        near-long = length-set near′ x v ∙ s .done .near-long;
+        steps = λ a l. elim (ℕ-discrete a x) [
+          | yes q ↦ rw q (same ∙ e)
+          | no q ↦ other a q ∙ s .done .steps a (omega arith)
+        ];
+        here = λ a l. elim (ℕ-discrete a x) [
+          | yes q ↦ rw q (getD-set-same ways′ (base + x) z (pos 0) i ∙ rw same f)
+          | no q ↦ getD-set-other ways′ (base + x) (base + a) z (pos 0) (omega arith) ∙ rw (other a q) (s .done .here a (omega arith))
+        ];
+        under = λ a l. getD-set-other ways′ (base + x) a z (pos 0) (omega arith) ∙ s .done .under a l;
+        over = λ a l. getD-set-other ways′ (base + x) a z (pos 0) (omega arith) ∙ s .done .over a (omega arith);
+      };
+      left = λ a l. other a (omega arith) ∙ s .left a (omega arith);
     }
+      where
+        same : getD (set near′ x v) x (pos 0) ≡ v
+        same = getD-set-same near′ x v (pos 0) j
 
-    pub spread-all : w ≤ x → Spread copper w c y v m n
-    spread-all h =
-        let e : x ≡ w = omega (arith, s .on) in
-        record { long = s .long; here = λ a l. s .here a (omega arith); rest = λ i out. s .rest i (λ a l. out a (omega arith)) }
+        other : (a : ℕ) → (a ≡ x → ⊥) → getD (set near′ x v) a (pos 0) ≡ getD near′ a (pos 0)
+        other a q = getD-set-other near′ x a v (pos 0) q
 
-    -- the row before is as it was
-    pub spread-read : (first : Bool) (before a : ℕ) → (first ≡ false → y ≡ before → ⊥) → a < w
-        → cond first (negsuc 0) (getD n (2 * index w a before + c) (pos 0)) ≡ cond first (negsuc 0) (getD m (2 * index w a before + c) (pos 0))
-    spread-read true before a apart h = refl
-    spread-read false before a apart h = s .rest (2 * index w a before + c) (λ b l e. apart refl (place-one w c b y a before (omega (arith, s .on)) h (sym e) .1))
+    pub spread-all : w ≤ x → Spread base w copper made ways near ways′ near′
+    spread-all h = let e : x ≡ w = omega (arith, s .on) in rw (← e) (s .done)

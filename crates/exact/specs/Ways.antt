@@ -2,7 +2,6 @@
 -- cost in the envelope of a row.
 -- Assumes nothing.
 use mathlib.Core.Path.{_≡_}
-use mathlib.Core.Logic.{_≢_}
 use mathlib.Core.Bool.{Bool, true, false, cond}
 use mathlib.Core.List.{List}
 use Prim.Native.Nat.{ℕ, zero, suc, _+_, _-_, _*_, _<_, _≤_}
@@ -46,39 +45,48 @@ shorter (negsuc u) (negsuc d) = mark
 abbrev pub costOf : ℤ → ℕ
 costOf v = cond (isMark v) 4294967295 (natAbs v * natAbs v)
 
--- ---- the two passes over the columns, on component c of the map (0: dx, 1: dy)
+-- ---- the two passes over the rows
 
 -- a number that can be one step farther
 abbrev pub Room : ℤ → Type 0
 Room v = mag v < 32767
 
--- row y is one step farther than the values v, and nothing else changes
-pub record Spread (copper : Mask) (w c y : ℕ) (v : ℕ → ℤ) (before after : List ℤ) : Type 0 where
-  pub long : length after ≡ length before
-  pub here : (x : ℕ) → x < w → getD after (2 * index w x y + c) (pos 0) ≡ farther (copper x y) (v x)
-  pub rest : (i : ℕ) → ((x : ℕ) → x < w → i ≢ 2 * index w x y + c) → getD after i (pos 0) ≡ getD before i (pos 0)
+-- the way upwards is 0 on copper alone
+abbrev pub isZero : ℤ → Bool
+isZero (pos n) = eqb n 0
+isZero (negsuc n) = false
 
--- dx holds the way upwards of every pixel
-pub record Risen (copper : Mask) (w h : ℕ) (before after : List ℤ) : Type 0 where
-  pub long : length after ≡ length before
-  pub ups : (x y : ℕ) → x < w → y < h → dxAt after (index w x y) ≡ up copper x y
+-- the row that starts at base: `near` is one step farther on, the row has what `made` makes of it, and nothing else changes
+pub record Spread (base w : ℕ) (copper : ℕ → Bool) (made : ℕ → ℤ → ℤ) (ways near ways′ near′ : List ℤ) : Type 0 where
+  pub long : length ways′ ≡ length ways
+  pub near-long : length near′ ≡ length near
+  pub steps : (x : ℕ) → x < w → getD near′ x (pos 0) ≡ farther (copper x) (getD near x (pos 0))
+  pub here : (x : ℕ) → x < w → getD ways′ (base + x) (pos 0) ≡ made x (getD near′ x (pos 0))
+  pub under : (i : ℕ) → i < base → getD ways′ i (pos 0) ≡ getD ways i (pos 0)
+  pub over : (i : ℕ) → base + w ≤ i → getD ways′ i (pos 0) ≡ getD ways i (pos 0)
 
--- dy holds the way downwards of every pixel, dx is as it was
-pub record Fallen (copper : Mask) (w h : ℕ) (before after : List ℤ) : Type 0 where
+-- every pixel has f
+pub record Held (w h : ℕ) (f : (x y : ℕ) → ℤ) (before after : List ℤ) : Type 0 where
   pub long : length after ≡ length before
-  pub downs : (x y : ℕ) → x < w → y < h → dyAt after (index w x y) ≡ down copper h x y
-  pub kept : (p : ℕ) → dxAt after p ≡ dxAt before p
+  pub at : (x y : ℕ) → x < w → y < h → getD after (index w x y) (pos 0) ≡ f x y
+
+-- the shorter way of each pixel, from a list of the ways upwards
+abbrev pub metal : List ℤ → (w : ℕ) → Mask
+metal ups w x y = isZero (getD ups (index w x y) (pos 0))
+
+abbrev pub shortened : List ℤ → (w h x y : ℕ) → ℤ
+shortened ups w h x y = shorter (getD ups (index w x y) (pos 0)) (down (metal ups w) h x y)
 
 -- ---- a row, whose first pixel is at base
 
 -- the way of column k, and the costs of all columns
 abbrev pub wayAt : List ℤ → (base k : ℕ) → ℤ
-wayAt m base k = shorter (dxAt m (base + k)) (dyAt m (base + k))
+wayAt m base k = getD m (base + k) (pos 0)
 
 unfoldable pub rowCosts : List ℤ → (base w : ℕ) → List ℕ
 rowCosts m base w = tabulate w (λ k. costOf (wayAt m base k))
 
--- both stand in the working slices
+-- both stand in the working rows
 pub record Priced (m : List ℤ) (base w : ℕ) (ways : List ℤ) (cost : List ℕ) : Type 0 where
   pub ways-at : (k : ℕ) → k < w → getD ways k (pos 0) ≡ wayAt m base k
   pub costs-at : (k : ℕ) → k < w → getD cost k 0 ≡ costOf (wayAt m base k)
@@ -98,9 +106,8 @@ pub record Written (base from to : ℕ) (v : ℕ → ℤ) (best : ℕ → ℕ) (
   pub under : (p : ℕ) → p < base + from → (dxAt after p ≡ dxAt before p) × (dyAt after p ≡ dyAt before p)
   pub over : (p : ℕ) → base + to ≤ p → (dxAt after p ≡ dxAt before p) × (dyAt after p ≡ dyAt before p)
 
--- the first n rows have the vectors to the best columns of their rows, and nothing else changes
-pub record Solved (w n : ℕ) (before after : List ℤ) : Type 0 where
+-- every pixel has the vector to the best column of its row
+pub record Solved (w h : ℕ) (before after : List ℤ) : Type 0 where
   pub long : length after ≡ length before
-  pub dx : (x y : ℕ) → x < w → y < n → dxAt after (index w x y) ≡ across (bestSite (rowCosts before (y * w) w) w x) x
-  pub dy : (x y : ℕ) → x < w → y < n → dyAt after (index w x y) ≡ along (wayAt before (y * w)) (bestSite (rowCosts before (y * w) w) w x)
-  pub over : (p : ℕ) → n * w ≤ p → (dxAt after p ≡ dxAt before p) × (dyAt after p ≡ dyAt before p)
+  pub dx : (x y : ℕ) → x < w → y < h → dxAt after (index w x y) ≡ across (bestSite (rowCosts before (y * w) w) w x) x
+  pub dy : (x y : ℕ) → x < w → y < h → dyAt after (index w x y) ≡ along (wayAt before (y * w)) (bestSite (rowCosts before (y * w) w) w x)

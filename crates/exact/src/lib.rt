@@ -1,30 +1,30 @@
 // The exact map (document 01, "Engines"), in time linear in the pixels and in row order of memory.
 //
-// Two passes over the rows leave in the map how far the nearest copper of each pixel's column is, upwards in dx and downwards in dy. Then each row is
-// worked out by itself: a column costs the square of its shorter way, and the lower envelope of the columns' parabolas gives the nearest column of each
-// pixel. The working rows are four local ones of 2,048 numbers.
+// Two passes over the rows leave in the first half of the map, a number a pixel, how far the nearest copper of each pixel's column is, up or down,
+// whichever is shorter. Then each row is worked out by itself: a column costs the square of its way, and the lower envelope of the columns' parabolas
+// gives the nearest column of each pixel. The rows are worked out from the last to the first, since the vectors of row y stand behind the ways of the
+// rows above it. The working rows are local ones of 2,048 numbers.
 ghost use mathlib.Core.Path.{_≡_};
-ghost use mathlib.Core.Bool.{true, false, not, cond};
-ghost use Prim.Native.Nat.{ℕ, _+_, _-_, _*_, _≤_, _<_};
+ghost use mathlib.Core.Bool.{not};
+ghost use Prim.Native.Nat.{ℕ, _+_, _*_, _≤_, _<_};
 ghost use lib.Dec.{eqb};
 ghost use lib.IntN.{pos, negsuc, _-ℤ_};
 ghost use lib.ListN.{length, getD};
-ghost use Rattle.raster.specs.Pixels.{index};
 ghost use Rattle.raster.specs.Sheet.{copperOf};
 ghost use Rattle.raster.specs.Vector.{Short};
 ghost use Rattle.envelope.specs.Best.{bestSite, Costs};
 ghost use Rattle.envelope.specs.Stack.{holder};
 ghost use Rattle.exact.specs.Nearest.{exactMap, cleared};
-ghost use Rattle.exact.specs.Ways.{farther, shorter, costOf, Room, Spread, Risen, Fallen, wayAt, rowCosts, Priced, Written, Solved};
+ghost use Rattle.exact.specs.Ways.{farther, up, shorter, costOf, Room, isZero, Spread, Held, shortened, wayAt, rowCosts, Priced, Written, Solved};
 
 // ---- the ways within the columns
 
 // One step farther than v, or 0 on copper; −1 stays.
-fn step(byte: u8, v: i32) -> i32
+fn step(copper: bool, v: i16) -> i16
     requires { ⌜ Room v ⌝ }
-    ensures { λ r. ⌜ (r ≡ farther (not (eqb byte 0)) v) × Short r ⌝ }
+    ensures { λ r. ⌜ r ≡ farther copper v ⌝ }
 {
-    if byte != 0 {
+    if copper {
         return 0;
     }
     if v < 0 {
@@ -33,86 +33,42 @@ fn step(byte: u8, v: i32) -> i32
     v + 1
 }
 
-// A number of the map, or −1 where `first` says that there is no row before.
-fn before_at(map: &[i16], i: usize, first: bool) -> i32
-    requires { ⌜ i < length (now map) ⌝ }
-    ensures { λ r. ⌜ r ≡ cond first (negsuc 0) (getD (now (map .entry)) i (pos 0)) ⌝ }
-{
-    if first {
-        return -1;
-    }
-    map[i] as i32
-}
-
-// Component c of row y, one step farther than that of the row before.
-fn spread_row(
-    sheet: &[u8],
-    map: &mut [i16],
-    w: usize,
-    y: usize,
-    before: usize,
-    first: bool,
-    c: usize,
-)
-    requires { ⌜ (c ≤ 1) × ((y * w + w ≤ length (now sheet)) × ((2 * (y * w + w) ≤ length (now map)) × (2 * (before * w + w) ≤ length (now map)))) ⌝ }
-    requires { ⌜ (first ≡ false → (y ≡ before → ⊥)) ⌝ }
-    requires { ⌜ ((x : ℕ) → x < w → Room (cond first (negsuc 0) (getD (now map) (2 * index w x before + c) (pos 0)))) ⌝ }
-    ensures { λ _. ⌜ Spread (copperOf (now (sheet .entry)) w) w c y (λ x. cond first (negsuc 0) (getD (now (map .entry)) (2 * index w x before + c) (pos 0))) (now (map .entry)) (now (map .exit)) ⌝ }
+// The row that starts at `base`, downwards: `near` has the ways upwards of the row above, then those of this row, which are written to `ways` too.
+fn row_down(sheet: &[u8], ways: &mut [i16], near: &mut [i16], base: usize, w: usize)
+    requires { ⌜ (base + w ≤ length (now sheet)) × ((base + w ≤ length (now ways)) × (w ≤ length (now near))) ⌝ }
+    requires { ⌜ ((x : ℕ) → x < w → Room (getD (now near) x (pos 0))) ⌝ }
+    ensures { λ _. ⌜ Spread base w (λ x. not (eqb (getD (now (sheet .entry)) (base + x) 0) 0)) (λ x v. v) (now (ways .entry)) (now (near .entry)) (now (ways .exit)) (now (near .exit)) ⌝ }
 {
     for x in 0..w {
-        let v = before_at(map, 2 * (before * w + x) + c, first);
-        map[2 * (y * w + x) + c] = step(sheet[y * w + x], v) as i16;
+        let v = step(sheet[base + x] != 0, near[x]);
+        near[x] = v;
+        ways[base + x] = v;
     }
 }
 
-// The row above y, or y itself where there is none; the row below, likewise.
-fn row_above(y: usize) -> usize
-    ensures { λ r. ⌜ r ≡ y - 1 ⌝ }
-{
-    if y == 0 {
-        return 0;
-    }
-    y - 1
-}
-
-fn row_below(y: usize, h: usize) -> usize
-    requires { ⌜ y < h ⌝ }
-    ensures { λ r. ⌜ (r < h) × (y + 1 < h → r ≡ y + 1) ⌝ }
-{
-    if y + 1 < h {
-        return y + 1;
-    }
-    y
-}
-
-// The ways upwards, rows from the top.
-fn pass_down(sheet: &[u8], map: &mut [i16], w: usize, h: usize)
-    requires { ⌜ (h ≤ 2048) × ((length (now sheet) ≡ h * w) × (length (now map) ≡ 2 * (h * w))) ⌝ }
-    ensures { λ _. ⌜ Risen (copperOf (now (sheet .entry)) w) w h (now (map .entry)) (now (map .exit)) ⌝ }
+// All rows from the top.
+fn rows_down(sheet: &[u8], ways: &mut [i16], near: &mut [i16], w: usize, h: usize)
+    requires { ⌜ (h ≤ 2048) × ((length (now sheet) ≡ h * w) × ((h * w ≤ length (now ways)) × (w ≤ length (now near)))) ⌝ }
+    requires { ⌜ ((x : ℕ) → x < w → getD (now near) x (pos 0) ≡ negsuc 0) ⌝ }
+    ensures { λ _. ⌜ Held w h (up (copperOf (now (sheet .entry)) w)) (now (ways .entry)) (now (ways .exit)) ⌝ }
 {
     for y in 0..h {
-        spread_row(sheet, map, w, y, row_above(y), y == 0, 0);
+        row_down(sheet, ways, near, y * w, w);
     }
 }
 
-// The ways downwards, rows from the bottom.
-fn pass_up(sheet: &[u8], map: &mut [i16], w: usize, h: usize)
-    requires { ⌜ (h ≤ 2048) × ((length (now sheet) ≡ h * w) × (length (now map) ≡ 2 * (h * w))) ⌝ }
-    ensures { λ _. ⌜ Fallen (copperOf (now (sheet .entry)) w) w h (now (map .entry)) (now (map .exit)) ⌝ }
+// The ways upwards of all pixels.
+fn pass_down(sheet: &[u8], ways: &mut [i16], w: usize, h: usize)
+    requires { ⌜ (w ≤ 2048) × ((h ≤ 2048) × ((length (now sheet) ≡ h * w) × (h * w ≤ length (now ways)))) ⌝ }
+    ensures { λ _. ⌜ Held w h (up (copperOf (now (sheet .entry)) w)) (now (ways .entry)) (now (ways .exit)) ⌝ }
 {
-    let mut y = h;
-    while 0 < y {
-        y -= 1;
-        spread_row(sheet, map, w, y, row_below(y, h), y + 1 == h, 1);
-    }
+    let mut above = [-1i16; 2048];
+    rows_down(sheet, ways, &mut above, w, h);
 }
-
-// ---- one row
 
 // The shorter of two ways as a component, among equals upwards.
-fn shorter_of(u: i32, d: i32) -> i32
-    requires { ⌜ Short u × Short d ⌝ }
-    ensures { λ r. ⌜ (r ≡ shorter u d) × Short r ⌝ }
+fn shorter_of(u: i16, d: i16) -> i16
+    ensures { λ r. ⌜ r ≡ shorter u d ⌝ }
 {
     if u < 0 {
         if d < 0 {
@@ -129,6 +85,45 @@ fn shorter_of(u: i32, d: i32) -> i32
     d
 }
 
+// The row that starts at `base`, upwards: `near` has the ways downwards of the row below, then those of this row, and `ways` goes from the ways upwards
+// to the shorter ones. Copper is where the way upwards is 0.
+fn row_up(ways: &mut [i16], near: &mut [i16], base: usize, w: usize)
+    requires { ⌜ (base + w ≤ length (now ways)) × (w ≤ length (now near)) ⌝ }
+    requires { ⌜ ((x : ℕ) → x < w → Room (getD (now near) x (pos 0))) ⌝ }
+    ensures { λ _. ⌜ Spread base w (λ x. isZero (getD (now (ways .entry)) (base + x) (pos 0))) (λ x v. shorter (getD (now (ways .entry)) (base + x) (pos 0)) v) (now (ways .entry)) (now (near .entry)) (now (ways .exit)) (now (near .exit)) ⌝ }
+{
+    for x in 0..w {
+        let u = ways[base + x];
+        let d = step(u == 0, near[x]);
+        near[x] = d;
+        ways[base + x] = shorter_of(u, d);
+    }
+}
+
+// All rows from the bottom.
+fn rows_up(ways: &mut [i16], near: &mut [i16], w: usize, h: usize)
+    requires { ⌜ (h ≤ 2048) × ((h * w ≤ length (now ways)) × (w ≤ length (now near))) ⌝ }
+    requires { ⌜ ((x : ℕ) → x < w → getD (now near) x (pos 0) ≡ negsuc 0) ⌝ }
+    ensures { λ _. ⌜ Held w h (shortened (now (ways .entry)) w h) (now (ways .entry)) (now (ways .exit)) ⌝ }
+{
+    let mut y = h;
+    while 0 < y {
+        y -= 1;
+        row_up(ways, near, y * w, w);
+    }
+}
+
+// The shorter ways of all pixels, from the ways upwards.
+fn pass_up(ways: &mut [i16], w: usize, h: usize)
+    requires { ⌜ (w ≤ 2048) × ((h ≤ 2048) × (h * w ≤ length (now ways))) ⌝ }
+    ensures { λ _. ⌜ Held w h (shortened (now (ways .entry)) w h) (now (ways .entry)) (now (ways .exit)) ⌝ }
+{
+    let mut below = [-1i16; 2048];
+    rows_up(ways, &mut below, w, h);
+}
+
+// ---- one row
+
 // What a column with that way costs.
 fn cost_of(v: i32) -> u32
     requires { ⌜ Short v ⌝ }
@@ -141,13 +136,21 @@ fn cost_of(v: i32) -> u32
     m * m
 }
 
+// A way.
+fn way_at(ways: &[i16], i: usize) -> i32
+    requires { ⌜ i < length (now ways) ⌝ }
+    ensures { λ r. ⌜ (r ≡ getD (now (ways .entry)) i (pos 0)) × Short r ⌝ }
+{
+    ways[i] as i32
+}
+
 // The ways and costs of the row that starts at `base`, costs such as the envelope takes.
 fn price_row(map: &[i16], base: usize, w: usize, ways: &mut [i16], cost: &mut [u32])
-    requires { ⌜ (2 * (base + w) ≤ length (now map)) × ((w ≤ length (now ways)) × (w ≤ length (now cost))) ⌝ }
+    requires { ⌜ (base + w ≤ length (now map)) × ((w ≤ length (now ways)) × (w ≤ length (now cost))) ⌝ }
     ensures { λ _. ⌜ Priced (now (map .entry)) base w (now (ways .exit)) (now (cost .exit)) × Costs (now (cost .exit)) w ⌝ }
 {
     for k in 0..w {
-        let v = shorter_of(raster::dx_at(map, base + k), raster::dy_at(map, base + k));
+        let v = way_at(map, base + k);
         ways[k] = v as i16;
         cost[k] = cost_of(v);
     }
@@ -181,14 +184,6 @@ fn clear_run(map: &mut [i16], base: usize, n: usize)
     for x in 0..n {
         raster::put_at(map, base + x, -32768, -32768);
     }
-}
-
-// A way that was kept.
-fn way_at(ways: &[i16], s: usize) -> i32
-    requires { ⌜ s < length (now ways) ⌝ }
-    ensures { λ r. ⌜ (r ≡ getD (now (ways .entry)) s (pos 0)) × Short r ⌝ }
-{
-    ways[s] as i32
 }
 
 // Each pixel of the row goes to the column that holds it on the stack: runs, from the last entry to the first.
@@ -239,7 +234,7 @@ fn solve_row(
     write_row(map, base, w, ways, site, start, count);
 }
 
-// All rows.
+// All rows, from the last.
 fn solve_rows(
     map: &mut [i16],
     w: usize,
@@ -253,8 +248,10 @@ fn solve_rows(
     requires { ⌜ (w ≤ length (now ways)) × ((w ≤ length (now cost)) × ((w ≤ length (now site)) × (w ≤ length (now start)))) ⌝ }
     ensures { λ _. ⌜ Solved w h (now (map .entry)) (now (map .exit)) ⌝ }
 {
-    for y in 0..h {
-        solve_row(map, y * w, w, ways, cost, site, start);
+    let mut rows = h;
+    while 0 < rows {
+        rows -= 1;
+        solve_row(map, rows * w, w, ways, cost, site, start);
     }
 }
 
@@ -290,7 +287,7 @@ pub fn exact(sheet: &[u8], map: &mut [i16], scratch: &mut [i16], w: usize, h: us
     ensures { λ _. ⌜ now (scratch .exit) ≡ cleared (h * w) (now (scratch .entry)) ⌝ }
 {
     pass_down(sheet, map, w, h);
-    pass_up(sheet, map, w, h);
+    pass_up(map, w, h);
     solve(map, w, h);
     zero(scratch, h * w);
 }

@@ -1,4 +1,4 @@
-// Maps as text, for the programs that show them.
+// Maps and sheets as text, for the programs that show them.
 ghost use mathlib.Core.Path.{_≡_};
 ghost use Prim.Native.Nat.{_+_, _*_, _≤_, _<_};
 ghost use lib.ListN.{length};
@@ -61,5 +61,35 @@ pub fn map(map: &[i16], w: usize, h: usize)
 {
     for y in 0..h {
         row(map, w, y);
+    }
+}
+
+// The pixel at p of a sheet: a dot for 0, a hash for any other byte.
+fn pixel(sheet: &[u8], p: usize)
+    requires { ⌜ p < length (now sheet) ⌝ }
+{
+    if sheet[p] == 0 {
+        text(b".");
+    } else {
+        text(b"#");
+    }
+}
+
+// Row y of a sheet of width w.
+fn sheet_row(sheet: &[u8], w: usize, y: usize)
+    requires { ⌜ y * w + w ≤ length (now sheet) ⌝ }
+{
+    for x in 0..w {
+        pixel(sheet, y * w + x);
+    }
+    line_end();
+}
+
+// A sheet of w × h pixels as a picture, a row to a line.
+pub fn sheet(sheet: &[u8], w: usize, h: usize)
+    requires { ⌜ h * w ≤ length (now sheet) ⌝ }
+{
+    for y in 0..h {
+        sheet_row(sheet, w, y);
     }
 }

@@ -3,6 +3,8 @@
 pub mod fused;
 pub mod plain;
 pub mod plain_exact;
+pub mod plain_resize;
+pub mod plain_skeleton;
 
 #[cfg(test)]
 mod tests {
@@ -40,6 +42,41 @@ mod tests {
         assert!(scratch[..pixels].iter().all(|&number| number == 0) && scratch[pixels..] == rest, "{board:?}");
     }
 
+    fn check_resize(board: &Board, random: &mut Random) {
+        let &Board { w, h, ref sheet } = board;
+        let q = [random.below(30), random.below((w * w + h * h) as u64), 4_194_304][random.below(3) as usize] as u32;
+        let expected = [model::resize::expand_by_map, model::resize::shrink_by_map].map(|resize| resize(sheet, w, h, q));
+        for (resize, expected) in [plain_resize::expand, plain_resize::shrink].into_iter().zip(expected) {
+            let mut sheet = sheet.clone();
+            let mut map = anything(2 * w * h, random);
+            let mut scratch = anything(w * h, random);
+            resize(&mut sheet, &mut map, &mut scratch, w, h, q);
+            assert!(sheet == expected, "q {q}: {board:?}");
+            assert!(map.iter().all(|&number| number == -32_768) && scratch.iter().all(|&number| number == 0), "q {q}: {board:?}");
+        }
+    }
+
+    /// Skeleton and rebuild on the board's exact map and on one that holds anything.
+    fn check_skeleton(board: &Board, random: &mut Random) {
+        let &Board { w, h, ref sheet } = board;
+        for map in [model::exact::outwards(sheet, w, h), model::maps::any(w * h, random)] {
+            let numbers = map.concat();
+            let mut kept = vec![7; w * h];
+            plain_skeleton::skeleton(&numbers, &mut kept, w, h);
+            assert!(kept == model::skeleton::skeleton(&map, w, h), "{board:?}");
+            // the model goes by brute force, so not on the larger ones
+            if w * h > 1_000 {
+                continue;
+            }
+            let some: Vec<u8> = kept.iter().map(|&byte| [byte, 0, random.next() as u8][random.below(3) as usize]).collect();
+            for marks in [kept, some] {
+                let mut out = vec![7; w * h];
+                plain_skeleton::rebuild(&numbers, &marks, &mut out, w, h);
+                assert!(out == model::skeleton::rebuild(&map, &marks, w, h), "{board:?}");
+            }
+        }
+    }
+
     /// Runs a check on many boards.
     fn on_boards(seed: u64, check: fn(&Board, &mut Random)) {
         let mut random = Random::new(seed);
@@ -67,6 +104,16 @@ mod tests {
     #[test]
     fn exact_as_the_model() {
         on_boards(22, check_exact);
+    }
+
+    #[test]
+    fn resize_as_the_model() {
+        on_boards(23, check_resize);
+    }
+
+    #[test]
+    fn skeleton_as_the_model() {
+        on_boards(24, check_skeleton);
     }
 
     #[test]

@@ -3,7 +3,7 @@
 //! A round goes once through all boards and runs each contender on each, so that a slow while of the machine hits all alike. The shortest
 //! time counts.
 
-use bench::{fused, plain, plain_exact};
+use bench::{fused, plain, plain_exact, plain_resize, plain_skeleton};
 use model::boards::{self, Board};
 use model::random::Random;
 use std::time::{Duration, Instant};
@@ -18,36 +18,85 @@ struct Slices<'a> {
     sheet: &'a mut [u8],
     map: &'a mut [i16],
     scratch: &'a mut [i16],
+    marks: &'a mut [u8],
+    out: &'a mut [u8],
 }
 
 type Call = fn(&mut Slices);
 
-/// What is timed: a call of the library, the same in plain Rust, and a tuned variant of that if there is one.
+/// What is timed: a call of the library, the same in plain Rust, and a tuned variant of that if there is one. What they need besides the
+/// sheet is made ready before, off the clock.
 struct What {
     name: &'static str,
+    ready: Call,
     library: Call,
     plain: Call,
     fused: Option<Call>,
 }
 
-const WHATS: [What; 3] = [
+/// By how much expand and shrink are timed.
+const Q: u32 = 25;
+
+/// The exact map of the sheet.
+fn map_of(on: &mut Slices) {
+    plain_exact::exact(on.sheet, on.map, on.scratch, on.w, on.h);
+}
+
+/// The exact map of the sheet, and its skeleton as the marks.
+fn skeleton_of(on: &mut Slices) {
+    map_of(on);
+    plain_skeleton::skeleton(on.map, on.marks, on.w, on.h);
+}
+
+const WHATS: [What; 7] = [
     What {
         name: "exact",
+        ready: |_| {},
         library: |on| abi::exact(on.sheet, on.map, on.scratch, on.w, on.h),
         plain: |on| plain_exact::exact(on.sheet, on.map, on.scratch, on.w, on.h),
         fused: None,
     },
     What {
         name: "8SED",
+        ready: |_| {},
         library: |on| assert!(!abi::scan(on.sheet, on.map, on.w, on.h, true)),
         plain: |on| assert!(!plain::scan(on.sheet, on.map, on.w, on.h, true)),
         fused: Some(|on| assert!(!fused::scan(on.sheet, on.map, on.w, on.h, true))),
     },
     What {
         name: "4SED",
+        ready: |_| {},
         library: |on| assert!(!abi::scan(on.sheet, on.map, on.w, on.h, false)),
         plain: |on| assert!(!plain::scan(on.sheet, on.map, on.w, on.h, false)),
         fused: Some(|on| assert!(!fused::scan(on.sheet, on.map, on.w, on.h, false))),
+    },
+    What {
+        name: "expand",
+        ready: |_| {},
+        library: |on| abi::expand(on.sheet, on.map, on.scratch, on.w, on.h, Q),
+        plain: |on| plain_resize::expand(on.sheet, on.map, on.scratch, on.w, on.h, Q),
+        fused: None,
+    },
+    What {
+        name: "shrink",
+        ready: |_| {},
+        library: |on| abi::shrink(on.sheet, on.map, on.scratch, on.w, on.h, Q),
+        plain: |on| plain_resize::shrink(on.sheet, on.map, on.scratch, on.w, on.h, Q),
+        fused: None,
+    },
+    What {
+        name: "skeleton",
+        ready: map_of,
+        library: |on| abi::skeleton(on.map, on.out, on.w, on.h),
+        plain: |on| plain_skeleton::skeleton(on.map, on.out, on.w, on.h),
+        fused: None,
+    },
+    What {
+        name: "rebuild",
+        ready: skeleton_of,
+        library: |on| abi::rebuild(on.map, on.marks, on.out, on.w, on.h),
+        plain: |on| plain_skeleton::rebuild(on.map, on.marks, on.out, on.w, on.h),
+        fused: None,
     },
 ];
 
@@ -56,18 +105,29 @@ struct Memory {
     sheet: Vec<u8>,
     map: Vec<i16>,
     scratch: Vec<i16>,
+    marks: Vec<u8>,
+    out: Vec<u8>,
 }
 
 impl Memory {
     fn new(pixels: usize) -> Self {
-        Memory { sheet: vec![0; pixels], map: vec![0; 2 * pixels], scratch: vec![0; pixels] }
+        let bytes = vec![0; pixels];
+        Memory { sheet: bytes.clone(), map: vec![0; 2 * pixels], scratch: vec![0; pixels], marks: bytes.clone(), out: bytes }
     }
 
-    /// The slices for a board, with its sheet. Map and scratch are as they were.
+    /// The slices for a board, with its sheet. The others are as they were.
     fn lend(&mut self, board: &Board) -> Slices<'_> {
         let &Board { w, h, ref sheet } = board;
         self.sheet[..w * h].copy_from_slice(sheet);
-        Slices { w, h, sheet: &mut self.sheet[..w * h], map: &mut self.map[..2 * w * h], scratch: &mut self.scratch[..w * h] }
+        Slices {
+            w,
+            h,
+            sheet: &mut self.sheet[..w * h],
+            map: &mut self.map[..2 * w * h],
+            scratch: &mut self.scratch[..w * h],
+            marks: &mut self.marks[..w * h],
+            out: &mut self.out[..w * h],
+        }
     }
 }
 
@@ -76,6 +136,7 @@ struct Line {
     what: &'static str,
     name: &'static str,
     board: Board,
+    ready: Call,
     calls: Vec<Call>,
     best: Vec<Duration>,
 }
@@ -83,12 +144,14 @@ struct Line {
 impl Line {
     fn new(what: &What, name: &'static str, side: usize) -> Self {
         let calls: Vec<Call> = [Some(what.library), Some(what.plain), what.fused].into_iter().flatten().collect();
-        Line { what: what.name, name, board: board(name, side), best: vec![Duration::MAX; calls.len()], calls }
+        let best = vec![Duration::MAX; calls.len()];
+        Line { what: what.name, name, board: board(name, side), ready: what.ready, calls, best }
     }
 
     /// Runs each contender once, another first in each turn. They must write the same.
     fn run(&mut self, turn: usize, memories: &mut [Memory]) {
         let mut slices: Vec<Slices> = memories.iter_mut().take(self.calls.len()).map(|memory| memory.lend(&self.board)).collect();
+        slices.iter_mut().for_each(self.ready);
         for (place, on) in slices.iter_mut().enumerate() {
             let which = (turn + place) % self.calls.len();
             let start = Instant::now();
@@ -96,7 +159,7 @@ impl Line {
             self.best[which] = self.best[which].min(start.elapsed());
         }
         for on in &slices[1..] {
-            let same = on.sheet == slices[0].sheet && on.map == slices[0].map;
+            let same = on.sheet == slices[0].sheet && on.map == slices[0].map && on.out == slices[0].out;
             assert!(same, "{} on {} {}: the contenders wrote different things", self.what, self.name, self.board.w);
         }
     }
@@ -145,14 +208,14 @@ fn main() {
     println!("ns a pixel, the shortest of {rounds} runs of each (twice as many at 1,024, four times at 512)");
     println!("each ratio is the library's time to the one before it; plain is the same call in plain Rust, fused a tuned variant\n");
     println!(
-        "{:5}  {:11}  {:>4}  {:>7}  {:>5}  {:>5}  {:>5}  {:>5}  library 2,048 / 512",
+        "{:8}  {:11}  {:>4}  {:>7}  {:>5}  {:>5}  {:>5}  {:>5}  library 2,048 / 512",
         "call", "board", "side", "library", "plain", "ratio", "fused", "ratio"
     );
     for sides in lines.chunks(SIDES.len()) {
         for line in sides {
             let [library, plain, fused] = [0, 1, 2].map(|which| line.nanoseconds(which));
             let over = |other: Option<f64>| Some(library? / other?);
-            print!("{:5}  {:11}  {:4}  {:>7}", line.what, line.name, line.board.w, cell(library));
+            print!("{:8}  {:11}  {:4}  {:>7}", line.what, line.name, line.board.w, cell(library));
             for number in [plain, over(plain), fused, over(fused)] {
                 print!("  {:>5}", cell(number));
             }

@@ -1,12 +1,12 @@
-//! The exact map in plain safe Rust by the library's algorithm: two passes over the rows find the nearest copper of each column, then each
-//! row is worked out by itself from the lower envelope of its columns' parabolas.
+//! The exact map in plain safe Rust: two passes over the rows find the nearest copper of each column, then each row is worked out by itself
+//! from the lower envelope of its columns' parabolas. The library's algorithm, which keeps one way a pixel where this keeps both in the pairs.
 
-type Pixel = [i16; 2];
+pub(crate) type Pixel = [i16; 2];
 
-const UNLABELLED: Pixel = [-32_768; 2];
+pub(crate) const UNLABELLED: Pixel = [-32_768; 2];
 
 /// The longest side.
-const SIDE: usize = 2_048;
+pub(crate) const SIDE: usize = 2_048;
 
 /// Writes the exact map of a sheet. The first `w` × `h` numbers of scratch are 0 afterwards.
 pub fn exact(sheet: &[u8], map: &mut [i16], scratch: &mut [i16], w: usize, h: usize) {
@@ -20,7 +20,7 @@ pub fn exact(sheet: &[u8], map: &mut [i16], scratch: &mut [i16], w: usize, h: us
     let mut stack = [Entry::default(); SIDE];
     for row in map.chunks_mut(w) {
         shorter(row, &mut ways);
-        let count = envelope(&ways[..w], &mut stack);
+        let count = envelope(ways[..w].iter().map(cost), &mut stack);
         write(row, &ways, &stack[..count]);
     }
     scratch[..w * h].fill(0);
@@ -70,34 +70,44 @@ fn shorter(row: &[Pixel], ways: &mut [i16]) {
     }
 }
 
+/// What a column costs: the square of its way.
+fn cost(&way: &i16) -> Option<u32> {
+    let way = i32::from(way);
+    if way == i32::from(NONE) {
+        None
+    } else {
+        Some((way * way) as u32)
+    }
+}
+
 /// An entry of the envelope's stack: a column, the first pixel of the row for which it is the best of the columns so far, and its square
 /// with its cost added.
 #[derive(Clone, Copy, Default)]
-struct Entry {
-    site: i32,
-    start: i32,
-    sum: i32,
+pub(crate) struct Entry {
+    pub site: i32,
+    pub start: i32,
+    pub sum: i64,
 }
 
-/// Stacks the columns that are best for some pixel of the row, and says how many. Among equals a pixel stays with the earlier.
-fn envelope(ways: &[i16], stack: &mut [Entry]) -> usize {
+/// Stacks the columns that are best for some pixel of the row, and says how many. Among equals a pixel stays with the earlier. A cost is at
+/// most 2³¹.
+pub(crate) fn envelope(costs: impl ExactSizeIterator<Item = Option<u32>>, stack: &mut [Entry]) -> usize {
+    let w = costs.len() as i32;
     let mut count = 0;
     let mut top = Entry::default();
-    for (site, &way) in ways.iter().enumerate() {
-        if way == NONE {
-            continue;
-        }
-        let (site, way) = (site as i32, i32::from(way));
-        let sum = site * site + way * way;
+    for (site, cost) in costs.enumerate() {
+        let Some(cost) = cost else { continue };
+        let site = site as i32;
+        let sum = i64::from(site * site) + i64::from(cost);
         // this column is better than the top's at x if `sum - top.sum` is below `2 * (site - top.site) * x`
-        while count > 0 && sum - top.sum < 2 * (site - top.site) * top.start {
+        while count > 0 && sum - top.sum < i64::from(2 * (site - top.site) * top.start) {
             count -= 1;
             if count > 0 {
                 top = stack[count - 1];
             }
         }
         let start = if count == 0 { 0 } else { ((sum - top.sum) as u32 / (2 * (site - top.site)) as u32 + 1) as i32 };
-        if start < ways.len() as i32 {
+        if start < w {
             top = Entry { site, start, sum };
             stack[count] = top;
             count += 1;

@@ -2,9 +2,12 @@
 
 pub mod boards;
 pub mod exact;
+pub mod maps;
 pub mod nearest;
 pub mod random;
+pub mod resize;
 pub mod scans;
+pub mod skeleton;
 
 /// Radius and pitch in micrometres to the answer number and q, by bisection and with no division.
 pub fn radius(r: u32, p: u32) -> (u32, u32) {

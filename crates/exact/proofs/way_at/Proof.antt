@@ -11,7 +11,7 @@ use Rattle.raster.proofs.Signed.{widen}
 use Rattle.exact.proofs.way_at.Statement.{statement}
 use Rattle.exact.proofs.way_at.Tie as tie
 
-read : (c : tie.After-result) → SFits w16 (getD (c .before .args .ways .now) (c .before .args .s) (pos 0))
+read : (c : tie.After-result) → SFits w16 (getD (c .before .args .ways .now) (c .before .args .i) (pos 0))
 read c = record { sfits = c .result .given }
 
 cast-result : tie.Need-cast-result

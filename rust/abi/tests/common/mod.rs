@@ -1,5 +1,8 @@
 //! What the tests of all calls share.
 
+// no test file needs all of it
+#![allow(dead_code)]
+
 use model::boards::Board;
 use model::random::Random;
 

@@ -1,0 +1,131 @@
+-- `exact::row_up` meets its contract. The invariant: the first x pixels of the row are spread, and `near` is as it was from there on.
+-- Assumes nothing.
+use mathlib.Core.Path.{_≡_, _∙_}
+use Prim.Native.Nat.{_+_, _-_}
+use native.Mathlib.Omega.{arith}
+use lib.IntN.{pos}
+use lib.ListN.{getD}
+use mir.Syntax.{w16}
+use mir.Val.{SFits, toZ, ofZ}
+use mir.ValLaws.{toZ-ofZ}
+use Rattle.exact.specs.Ways.{isZero, shorter}
+use Rattle.exact.proofs.Numbers.{zero-bits}
+use Rattle.exact.proofs.Spreading.{SpreadTo, spread-none, spread-more, spread-all}
+use Rattle.exact.proofs.row_up.Statement.{statement}
+use Rattle.exact.proofs.row_up.Tie as tie
+use Rattle.exact.proofs.row_up.Reads as reads
+use Rattle.exact.proofs.row_up.Lts as lts
+
+abbrev Inv-loop : tie.InvT-loop
+Inv-loop ways₀ near₀ base w x₀ ways near x = SpreadTo base w (λ z. isZero (getD ways₀ (base + z) (pos 0))) (λ z v. shorter (getD ways₀ (base + z) (pos 0)) v) ways₀ near₀ x ways near
+
+abbrev μ-loop : tie.MeasureT-loop
+μ-loop ways₀ near₀ base w x₀ ways near x = w - x
+
+loop-holds : tie.Need-loop-holds Inv-loop μ-loop
+loop-holds c = spread-none
+
+add-u : tie.Need-add-u Inv-loop μ-loop
+add-u c = omega arith
+
+mul-u : tie.Need-mul-u Inv-loop μ-loop
+mul-u c = omega arith
+
+slice-copy-out-u : tie.Need-slice-copy-out-u Inv-loop μ-loop
+slice-copy-out-u c = omega arith
+
+mul-step : tie.Need-mul-step Inv-loop μ-loop
+mul-step c = omega arith
+
+slice-copy-out-step : tie.Need-slice-copy-out-step Inv-loop μ-loop
+slice-copy-out-step c = omega arith
+
+-- what is read of `near` and of the ways is what stood there at entry
+near-is : (c : tie.After-step-arg Inv-loop μ-loop) → let l = c .before .before .before in
+    toZ w16 (ofZ w16 (getD (l .loop .near) (l .loop .x) (pos 0))) ≡ getD (l .before .args .near .now) (l .loop .x) (pos 0)
+near-is c =
+    let l = c .before .before .before .loop in
+    toZ-ofZ w16 _ (record { sfits = c .step-arg .given }) ∙ l .inv .left (l .x) (omega arith)
+
+u-fits : (c : tie.After-u Inv-loop μ-loop) → let l = c .before .before in
+    SFits w16 (getD (l .loop .ways) (l .before .args .base + l .loop .x) (pos 0))
+u-fits c = record { sfits = c .u .given }
+
+u-is : (c : tie.After-u Inv-loop μ-loop) → let l = c .before .before in let a = l .before .args in
+    getD (l .loop .ways) (a .base + l .loop .x) (pos 0) ≡ getD (a .ways .now) (a .base + l .loop .x) (pos 0)
+u-is c = let l = c .before .before in l .loop .inv .done .over (l .before .args .base + l .loop .x) (omega arith)
+
+step-requires : tie.Need-step-requires Inv-loop μ-loop
+step-requires c κs =
+    let l = c .before .before .before in
+    rw (near-is c) (l .before .pre .1 (l .loop .x) (omega arith))
+
+mul-d : tie.Need-mul-d Inv-loop μ-loop
+mul-d c = omega arith
+
+slice-set-from-d : tie.Need-slice-set-from-d Inv-loop μ-loop
+slice-set-from-d c = omega arith
+
+shorter-of-requires : tie.Need-shorter-of-requires Inv-loop μ-loop
+shorter-of-requires c κs = omega arith
+
+add-t10 : tie.Need-add-t10 Inv-loop μ-loop
+add-t10 c = omega arith
+
+mul-t9 : tie.Need-mul-t9 Inv-loop μ-loop
+mul-t9 c = omega arith
+
+slice-set-from-ways : tie.Need-slice-set-from-ways Inv-loop μ-loop
+slice-set-from-ways c = omega arith
+
+add-x : tie.Need-add-x Inv-loop μ-loop
+add-x c = omega arith
+
+loop-less : tie.Need-loop-less Inv-loop μ-loop
+loop-less c = omega arith
+
+loop-again : tie.Need-loop-again Inv-loop μ-loop
+loop-again c =
+    let d = c .before in
+    let u = d .before .before in
+    let l = u .before .before in
+    let f : SFits w16 (d .step .result) = record { sfits = d .step .ok } in
+    let g : SFits w16 (c .shorter-of .result) = record { sfits = c .shorter-of .ok } in
+    let e = rw (near-is (d .before), zero-bits _ (u-fits u), u-is u) at (d .step .ensures) in
+    let k = rw (u-is u) at (simp (toZ-ofZ, f, u-fits u) at (c .shorter-of .ensures)) in
+    simp (toZ-ofZ, f, g) (spread-more (l .loop .inv) (omega arith) (omega arith) (omega arith) e k)
+
+same-length : tie.Need-same-length Inv-loop μ-loop
+same-length c = omega arith
+
+same-length-2 : tie.Need-same-length-2 Inv-loop μ-loop
+same-length-2 c = omega arith
+
+returns : tie.Need-returns Inv-loop μ-loop
+returns c = spread-all (c .before .loop .inv) (omega arith)
+
+pub row-up-spec : {M : Type 1} → statement M
+row-up-spec =
+    tie.close
+    (tie.spec
+    Inv-loop
+    μ-loop
+    loop-holds
+    add-u
+    mul-u
+    slice-copy-out-u
+    mul-step
+    slice-copy-out-step
+    step-requires
+    mul-d
+    slice-set-from-d
+    shorter-of-requires
+    add-t10
+    mul-t9
+    slice-set-from-ways
+    add-x
+    loop-less
+    loop-again
+    same-length
+    same-length-2
+    returns)

@@ -1,0 +1,12 @@
+-- `Theorems` is what callers cite of skeleton and rebuild; what stands above it leads up to it. Below it: what the proofs of the functions share.
+pub mod Outside
+pub mod Disks
+pub mod Theorems
+pub mod Table
+pub mod Tables
+pub mod Rows
+pub mod Neighbours
+pub mod Raising
+pub mod Covering
+pub mod Passing
+mod Boards

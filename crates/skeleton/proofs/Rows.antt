@@ -1,0 +1,59 @@
+-- Rows of a sheet: how one starts, one byte more; and rows from the top, which make the sheet.
+-- Assumes nothing.
+use mathlib.Core.Path.{_≡_, refl, _∙_}
+use mathlib.Core.Logic.{_≢_}
+use mathlib.Core.List.{List}
+use Prim.Native.Nat.{ℕ, _+_, _*_, _<_, _≤_}
+use native.Mathlib.Decide.{decLt, ℕ-discrete}
+use native.Mathlib.Nat.{mul-le-mul-right}
+use native.Mathlib.Omega.{arith}
+use lib.ListN.{length, getD, set, length-set}
+use lib.Seq.{getD-set-same, getD-set-other}
+use Rattle.raster.specs.Pixels.{index, pixels}
+use Rattle.raster.specs.PixelsLaws.{pixels-is}
+use Rattle.skeleton.specs.Rows.{RowWritten}
+
+module _ {base : ℕ} {f : ℕ → ℕ} {before : List ℕ} where
+  pub row-none : RowWritten base 0 f before before
+  row-none = record { long = refl; here = λ x l. absurd (omega arith); under = λ p l. refl; over = λ p l. refl }
+
+  pub row-more : {n v : ℕ} {after : List ℕ} → RowWritten base n f before after → base + n < length before → v ≡ f n
+      → RowWritten base (n + 1) f before (set after (base + n) v)
+  row-more {n} {v} {after} r l e = record {
+    long = length-set after (base + n) v ∙ r .long;
+    here = λ x m. elim (ℕ-discrete x n) [
+      | yes q ↦ rw q (getD-set-same after (base + n) v 0 (omega (arith, r .long)) ∙ e)
+      | no q ↦ getD-set-other after (base + n) (base + x) v 0 (omega arith) ∙ r .here x (omega arith)
+    ];
+    under = λ p m. getD-set-other after (base + n) p v 0 (omega arith) ∙ r .under p m;
+    over = λ p m. getD-set-other after (base + n) p v 0 (omega arith) ∙ r .over p (omega arith);
+  }
+
+-- the other rows of a sheet of width w are left alone
+pub row-other : (w b : ℕ) {f : ℕ → ℕ} {before after : List ℕ} → RowWritten (b * w) w f before after → (x a : ℕ) → x < w → a ≢ b
+    → getD after (index w x a) 0 ≡ getD before (index w x a) 0
+row-other w b r x a l n = elim (decLt a b) [
+  | yes q ↦ r .under (index w x a) (omega (arith, mul-le-mul-right w q))
+  | no q ↦ let k : b < a = omega arith in r .over (index w x a) (omega (arith, mul-le-mul-right w k))
+]
+
+-- the first n rows of a sheet of width w are those of f
+pub record RowsWritten (w n : ℕ) (f : ℕ → ℕ → ℕ) (before after : List ℕ) : Type 0 where
+  pub long : length after ≡ length before
+  pub here : (x y : ℕ) → x < w → y < n → getD after (index w x y) 0 ≡ f x y
+
+module _ {w : ℕ} {f : ℕ → ℕ → ℕ} {before : List ℕ} where
+  pub rows-none : RowsWritten w 0 f before before
+  rows-none = record { long = refl; here = λ x y a b. absurd (omega arith) }
+
+  pub rows-more : {n : ℕ} {s t : List ℕ} → RowsWritten w n f before s → RowWritten (n * w) w (λ x. f x n) s t → RowsWritten w (n + 1) f before t
+  rows-more {n} {s} {t} r o = record {
+    long = o .long ∙ r .long;
+    here = λ x y a b. elim (decLt y n) [
+      | yes l ↦ o .under (index w x y) (omega (arith, mul-le-mul-right w l)) ∙ r .here x y a l
+      | no l ↦ let e : y ≡ n = omega arith in rw e (o .here x a)
+    ];
+  }
+
+  pub rows-all : {h n : ℕ} {s : List ℕ} → RowsWritten w n f before s → length before ≡ h * w → h ≤ n → s ≡ pixels w h f
+  rows-all {h} {n} {s} r l k = pixels-is w h f s 0 (r .long ∙ l) (λ x y a b. r .here x y a (omega arith))

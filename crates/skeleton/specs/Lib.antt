@@ -1,0 +1,4 @@
+pub mod Table
+pub mod Skeleton
+pub mod Rows
+pub mod Rebuild

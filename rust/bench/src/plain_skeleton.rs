@@ -1,0 +1,131 @@
+//! Skeleton and rebuild in plain safe Rust by the library's algorithms.
+
+use crate::plain_exact::{envelope, Entry, Pixel, SIDE, UNLABELLED};
+
+/// The size of an unlabelled pixel, above all others.
+const NONE: u32 = 1 << 31;
+
+/// g4 and g8 for n up to 400. At 0 stands what no pixel has.
+static G4: [u32; 401] = table(false);
+static G8: [u32; 401] = table(true);
+
+/// The least (h − 1)² + k² of document 01, with `corner` the least (h − 1)² + (k − 1)². Pairs with a number above 20 are no better than
+/// (20, 0), and negative ones no better than those without the sign.
+const fn table(corner: bool) -> [u32; 401] {
+    let mut least = [u32::MAX; 401];
+    let mut pair = 0;
+    while pair < 21 * 21 {
+        let (h, k) = (pair / 21, pair % 21);
+        let n = if h * h + k * k < 400 { h * h + k * k } else { 400 };
+        let (right, down) = (h as i32 - 1, k as i32 - corner as i32);
+        let outside = (right * right + down * down) as u32;
+        if outside < least[n] {
+            least[n] = outside;
+        }
+        pair += 1;
+    }
+    let mut n = 399;
+    while n > 0 {
+        if least[n + 1] < least[n] {
+            least[n] = least[n + 1];
+        }
+        n -= 1;
+    }
+    least[0] = u32::MAX;
+    least
+}
+
+fn size([dx, dy]: Pixel) -> u32 {
+    let (dx, dy) = (i32::from(dx), i32::from(dy));
+    (dx * dx) as u32 + (dy * dy) as u32
+}
+
+/// Writes 1 at each pixel that is kept, 0 elsewhere.
+pub fn skeleton(map: &[i16], out: &mut [u8], w: usize, h: usize) {
+    assert!(map.len() == 2 * w * h && out.len() == w * h);
+    if w == 0 {
+        return;
+    }
+    let (map, _) = map.as_chunks();
+    // the sizes of the rows above and below and of the row itself, with a 0 for off the sheet at either end
+    let mut sizes = [(); 3].map(|()| vec![0; w + 2]);
+    let mut rows = map.chunks(w);
+    measure(rows.next(), &mut sizes[2]);
+    for out in out.chunks_mut(w) {
+        sizes.rotate_left(1);
+        measure(rows.next(), &mut sizes[2]);
+        keep(&sizes, out);
+    }
+}
+
+/// The sizes of a row, or 0 if there is none.
+fn measure(row: Option<&[Pixel]>, sizes: &mut [u32]) {
+    match row {
+        Some(row) => sizes[1..].iter_mut().zip(row).for_each(|(of, &pixel)| *of = size(pixel)),
+        None => sizes.fill(0),
+    }
+}
+
+/// Writes which pixels of a row are kept.
+fn keep([above, row, below]: &[Vec<u32>; 3], out: &mut [u8]) {
+    let w = out.len();
+    let (above, row, below) = (&above[..w + 2], &row[..w + 2], &below[..w + 2]);
+    for (x, byte) in out.iter_mut().enumerate() {
+        let own = row[x + 1];
+        let side = |n: u32| G4.get(n as usize) == Some(&own);
+        let corner = |n: u32| G8.get(n as usize) == Some(&own);
+        let sides = side(above[x + 1]) || side(row[x]) || side(row[x + 2]) || side(below[x + 1]);
+        let covered = sides || corner(above[x]) || corner(above[x + 2]) || corner(below[x]) || corner(below[x + 2]);
+        *byte = u8::from(own != 0 && own != NONE && !covered);
+    }
+}
+
+/// Writes 1 at each pixel whose squared distance to some marked pixel is below that pixel's size, 0 elsewhere.
+pub fn rebuild(map: &[i16], marks: &[u8], out: &mut [u8], w: usize, h: usize) {
+    assert!(w <= SIDE && h <= SIDE && map.len() == 2 * w * h && marks.len() == w * h && out.len() == w * h);
+    out.fill(0);
+    let (map, _) = map.as_chunks();
+    pass(map, marks, out, w, h, |turn| turn);
+    pass(map, marks, out, w, h, |turn| h - 1 - turn);
+}
+
+/// Writes 1 at the pixels that marks of their own row or of those before it cover. The rows come in the order that `row` says.
+fn pass(map: &[Pixel], marks: &[u8], out: &mut [u8], w: usize, h: usize, row: impl Fn(usize) -> usize) {
+    let mut stack = [Entry::default(); SIDE];
+    let mut prices = [0; SIDE];
+    // the first turn that the marks so far do not cover, column by column
+    let mut reaches = [0_usize; SIDE];
+    for turn in 0..h {
+        let from = row(turn) * w;
+        price(&map[from..from + w], &marks[from..from + w], &mut stack, &mut prices[..w]);
+        let columns = out[from..from + w].iter_mut().zip(&mut reaches).zip(&prices);
+        for ((byte, reach), &price) in columns {
+            let mut apart = reach.saturating_sub(turn);
+            // the square is carried along: worked out anew in each step it makes the compiler look sixteen steps ahead, mostly for nothing
+            let mut sum = (apart * apart) as u32 + price;
+            while turn + apart < h && sum < NONE {
+                sum += 2 * apart as u32 + 1;
+                apart += 1;
+            }
+            *reach = turn + apart;
+            *byte |= u8::from(apart > 0);
+        }
+    }
+}
+
+/// The least, over the marked pixels of a row, of 2³¹ less the size plus the squared distance along the row. Below 2³¹ the pixel is covered.
+fn price(row: &[Pixel], marks: &[u8], stack: &mut [Entry], prices: &mut [u32]) {
+    let counts = |(&pixel, &mark): (&Pixel, &u8)| if mark != 0 && pixel != UNLABELLED { Some(NONE - size(pixel)) } else { None };
+    let count = envelope(row.iter().zip(marks).map(counts), stack);
+    let mut rest = prices;
+    for entry in stack[..count].iter().rev() {
+        let (left, run) = rest.split_at_mut(entry.start as usize);
+        let cost = (entry.sum - i64::from(entry.site * entry.site)) as u32;
+        for (x, price) in run.iter_mut().enumerate() {
+            let apart = entry.start + x as i32 - entry.site;
+            *price = cost + (apart * apart) as u32;
+        }
+        rest = left;
+    }
+    rest.fill(NONE);
+}

@@ -1,0 +1,28 @@
+//! Maps for the tests that belong to no sheet.
+
+use crate::random::Random;
+use crate::scans::UNLABELLED;
+
+/// A map that holds anything.
+pub fn any(pixels: usize, random: &mut Random) -> Vec<[i16; 2]> {
+    // some maps have only short vectors, for on them more pixels are left out of the skeleton
+    let kinds = [3, 6, 9][random.below(3) as usize];
+    (0..pixels).map(|_| vector(kinds, random)).collect()
+}
+
+/// A vector of one of the first kinds of those below.
+fn vector(kinds: u64, random: &mut Random) -> [i16; 2] {
+    let mut short = |most: usize| random.between(0, 2 * most) as i16 - most as i16;
+    let (small, medium) = ([short(2), short(2)], [short(20), short(20)]);
+    let any = [random.next() as i16, random.next() as i16];
+    match random.below(kinds) {
+        0..=2 => small,
+        3 | 4 => medium,
+        // sizes around 400 and those that go with them
+        5 => [[19, 0], [1, -19], [-12, 16], [0, 20], [-20, 0], [-1, 20], [20, 1], [-11, 15]][random.below(8) as usize],
+        6 => [UNLABELLED, [0, 0]][random.below(2) as usize],
+        // half marked, and the largest of all
+        7 => [[-32_768, any[1]], [any[0], -32_768], [-32_768, 0], [-32_768, -32_767], [32_767, 32_767]][random.below(5) as usize],
+        _ => any,
+    }
+}
