@@ -1,5 +1,5 @@
-//! The exact map in plain safe Rust: two passes over the rows find the nearest copper of each column, then each row is worked out by itself
-//! from the lower envelope of its columns' parabolas. The library's algorithm, which keeps one way a pixel where this keeps both in the pairs.
+//! The exact map in plain safe Rust by the library's algorithm: two passes over the rows find the nearest copper of each column, then each
+//! row is worked out by itself from the lower envelope of its columns' parabolas. The ways stand in the first half of the map.
 
 pub(crate) type Pixel = [i16; 2];
 
@@ -14,61 +14,53 @@ pub fn exact(sheet: &[u8], map: &mut [i16], scratch: &mut [i16], w: usize, h: us
     if w == 0 {
         return;
     }
-    let (map, _) = map.as_chunks_mut();
-    columns(sheet, map, w, h);
+    upwards(sheet, &mut map[..w * h], w);
+    shorter(&mut map[..w * h], w);
     let mut ways = [0; SIDE];
     let mut stack = [Entry::default(); SIDE];
-    for row in map.chunks_mut(w) {
-        shorter(row, &mut ways);
+    // from the last row, for a row's vectors lie behind the ways of the rows above it
+    for y in (0..h).rev() {
+        ways[..w].copy_from_slice(&map[y * w..][..w]);
         let count = envelope(ways[..w].iter().map(cost), &mut stack);
+        let (row, _) = map[2 * y * w..2 * (y + 1) * w].as_chunks_mut();
         write(row, &ways, &stack[..count]);
     }
     scratch[..w * h].fill(0);
 }
 
-/// Leaves in dx how far the nearest copper above a pixel is and in dy how far that below, 0 on copper and −1 if there is none.
-fn columns(sheet: &[u8], map: &mut [Pixel], w: usize, h: usize) {
-    let none = &[[-1; 2]; SIDE][..w];
-    for y in 0..h {
-        let (above, rest) = map.split_at_mut(y * w);
-        from_above(&mut rest[..w], above.rchunks(w).next().unwrap_or(none), &sheet[y * w..]);
-    }
-    for y in (0..h).rev() {
-        let (rest, below) = map.split_at_mut((y + 1) * w);
-        from_below(&mut rest[y * w..], below.chunks(w).next().unwrap_or(none), &sheet[y * w..]);
+/// Leaves how far the nearest copper above a pixel is, 0 on copper and −1 if there is none.
+fn upwards(sheet: &[u8], ways: &mut [i16], w: usize) {
+    let mut above = [-1; SIDE];
+    for (row, bytes) in ways.chunks_mut(w).zip(sheet.chunks(w)) {
+        for ((way, above), &byte) in row.iter_mut().zip(&mut above).zip(bytes) {
+            *above = farther(byte != 0, *above);
+            *way = *above;
+        }
     }
 }
 
-fn from_above(row: &mut [Pixel], above: &[Pixel], sheet: &[u8]) {
-    let (above, sheet) = (&above[..row.len()], &sheet[..row.len()]);
-    for x in 0..row.len() {
-        row[x] = [farther(sheet[x], above[x][0]), 0];
-    }
-}
-
-fn from_below(row: &mut [Pixel], below: &[Pixel], sheet: &[u8]) {
-    let (below, sheet) = (&below[..row.len()], &sheet[..row.len()]);
-    for x in 0..row.len() {
-        row[x] = [row[x][0], farther(sheet[x], below[x][1])];
+/// Turns that into the shorter way of both, with its sign, among equals upwards.
+fn shorter(ways: &mut [i16], w: usize) {
+    let mut below = [-1; SIDE];
+    for row in ways.chunks_mut(w).rev() {
+        for (way, below) in row.iter_mut().zip(&mut below) {
+            let up = *way;
+            *below = farther(up == 0, *below);
+            let down = *below;
+            // as an unsigned number −1 is above all others
+            let shorter = if up as u16 <= down as u16 { -up } else { down };
+            *way = if up & down < 0 { NONE } else { shorter };
+        }
     }
 }
 
 /// One step farther, or 0 on copper; −1 stays. Without jumps, so that several pixels are done at a time.
-fn farther(byte: u8, from: i16) -> i16 {
-    (from + i16::from(from >= 0)) & -i16::from(byte == 0)
+fn farther(copper: bool, from: i16) -> i16 {
+    (from + i16::from(from >= 0)) & -i16::from(!copper)
 }
 
 /// The way of a column without copper.
 const NONE: i16 = -32_768;
-
-/// The shorter way of each column, among equals upwards.
-fn shorter(row: &[Pixel], ways: &mut [i16]) {
-    for (&[up, down], way) in row.iter().zip(ways) {
-        // as an unsigned number −1 is above all others
-        let shorter = if up as u16 <= down as u16 { -up } else { down };
-        *way = if up & down < 0 { NONE } else { shorter };
-    }
-}
 
 /// What a column costs: the square of its way.
 fn cost(&way: &i16) -> Option<u32> {
