@@ -7,17 +7,17 @@ use mathlib.Core.Path.{_≡_, sym, ap, _∙_}
 use mathlib.Core.Logic.{_⊎_, inl, inr}
 use mathlib.Core.Bool.{true, false, _&&_, true≢false}
 use mathlib.Core.List.{List}
-use Prim.Native.Nat.{ℕ, _*_, _<_, _≤_}
+use Prim.Native.Nat.{ℕ, _<_, _≤_}
 use native.Mathlib.Decide.{decLt}
 use native.Mathlib.Omega.{arith}
 use lib.IntN.{ℤ, pos, _-ℤ_}
-use lib.ListN.{length, getD}
+use lib.ListN.{getD}
 use Rattle.raster.specs.Distance.{apart, Copper, Clear, Near}
 use Rattle.raster.specs.Gate.{passes}
 use Rattle.raster.specs.GateLaws.{passed-above, failed-within}
 use Rattle.raster.specs.Limits.{maxSide}
 use Rattle.raster.specs.Map.{dxAt, dyAt}
-use Rattle.raster.specs.MapLaws.{vectors-length, vectors-dx, vectors-dy}
+use Rattle.raster.specs.MapLaws.{vectors-dx, vectors-dy}
 use Rattle.raster.specs.Pixels.{Mask, index, tabulate}
 use Rattle.raster.specs.PixelsLaws.{tabulate-at}
 use Rattle.raster.specs.Vector.{size, inRange, unlabelled, Ends, Target}
@@ -180,7 +180,3 @@ module _ (copper : Mask) (w h : ℕ) (wide : w ≤ maxSide) (tall : h ≤ maxSid
   gate-fair q l p =
       let t = ends-on-copper l in
       record { column = t .column; row = t .row; copper = t .metal; within = omega (arith, ends-size (t .ends), failed-within gate (size dx dy) q p) }
-
-pub exact-length : (copper : Mask) (w h : ℕ) → length (exactMap copper w h) ≡ 2 * (h * w)
-unfolding exactMap
-exact-length copper w h = vectors-length w h _ _

@@ -28,10 +28,6 @@ flipped-copper s w h x y whole a b = rw (tabulate-at (length s) (λ p. turned (g
     go true = refl
     go false = refl
 
-pub flipped-length : (s : List ℕ) → length (flipped s) ≡ length s
-unfolding flipped
-flipped-length s = tabulate-length (length s) _
-
 -- masks that agree on the sheet have the same pixels near
 near-same : (a b : Mask) (w h q x y : ℕ) → ((i j : ℕ) → i < w → j < h → a i j ≡ b i j) → near a w h q x y ≡ near b w h q x y
 near-same a b w h q x y same = go (near b w h q x y) refl

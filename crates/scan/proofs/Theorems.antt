@@ -123,9 +123,6 @@ module _ (w h : ℕ) (wide : w ≤ maxSide) (tall : h ≤ maxSide) (sheet : List
     abbrev pub map : List ℤ
     map = scanned w corners h sheet .map
 
-    pub map-length : length map ≡ 2 * (h * w)
-    map-length = all-grows .fine .sound .long
-
     module _ (x y : ℕ) (across : x < w) (down : y < h) where
       abbrev pub dx : ℤ
       dx = dxAt map (index w x y)
