@@ -73,6 +73,14 @@ pub fn size_at(map: &[i16], p: usize) -> u32
     size_of(dx_at(map, p), dy_at(map, p))
 }
 
+// Whether pixel p is unlabelled. No pixel's size is above 2^31.
+pub fn unlabelled_at(map: &[i16], p: usize) -> bool
+    requires { ⌜ Inside p (now map) ⌝ }
+    ensures { λ r. ⌜ (r ≡ unlabelled (dxAt (now (map .entry)) p) (dyAt (now (map .entry)) p)) × (sizeAt (now (map .entry)) p ≤ 2147483648) ⌝ }
+{
+    is_unlabelled(dx_at(map, p), dy_at(map, p))
+}
+
 // Writes the vector (dx, dy) at pixel p.
 pub fn put_at(map: &mut [i16], p: usize, dx: i32, dy: i32)
     requires { ⌜ Inside p (now map) ⌝ }

@@ -7,8 +7,7 @@ ghost use lib.ListN.{length, getD};
 ghost use Rattle.skeleton.specs.Table.{g};
 ghost use Rattle.raster.specs.Loop.{some};
 ghost use Rattle.raster.specs.Distance.{gap};
-ghost use Rattle.raster.specs.Map.{Inside, dxAt, dyAt, sizeAt};
-ghost use Rattle.raster.specs.Vector.{unlabelled};
+ghost use Rattle.raster.specs.Map.{Inside, sizeAt};
 ghost use Rattle.envelope.specs.Best.{priceOf, Costs};
 ghost use Rattle.envelope.specs.Stack.{Entries, holder};
 ghost use Rattle.raster.specs.Pixels.{index};
@@ -906,21 +905,13 @@ fn is_removed(map: &[i16], w: usize, h: usize, x: usize, y: usize, s: u32) -> bo
     right | (here | left)
 }
 
-// Whether pixel p is unlabelled. No pixel's size is above 2^31.
-fn unlabelled_at(map: &[i16], p: usize) -> bool
-    requires { ⌜ Inside p (now map) ⌝ }
-    ensures { λ r. ⌜ (r ≡ unlabelled (dxAt (now (map .entry)) p) (dyAt (now (map .entry)) p)) × (sizeAt (now (map .entry)) p ≤ 2147483648) ⌝ }
-{
-    raster::is_unlabelled(raster::dx_at(map, p), raster::dy_at(map, p))
-}
-
 // 1 where the pixel is kept, 0 elsewhere.
 fn keep(map: &[i16], w: usize, h: usize, x: usize, y: usize) -> u8
     requires { ⌜ (length (now map) ≡ 2 * (h * w)) × ((x < w) × (y < h)) ⌝ }
     ensures { λ r. ⌜ r ≡ cond (kept (now (map .entry)) w h x y) 1 0 ⌝ }
 {
     let p = y * w + x;
-    if unlabelled_at(map, p) {
+    if raster::unlabelled_at(map, p) {
         return 0;
     }
     let s = raster::size_at(map, p);
@@ -967,7 +958,7 @@ fn cost_of(map: &[i16], marks: &[u8], p: usize) -> u32
     if marks[p] == 0 {
         return 4294967295;
     }
-    if unlabelled_at(map, p) {
+    if raster::unlabelled_at(map, p) {
         return 4294967295;
     }
     2147483648 - raster::size_at(map, p)

@@ -1,4 +1,4 @@
--- `skeleton::unlabelled_at` meets its contract, by those of the calls: what is read fits, and two squares of it are at most 2^31.
+-- `raster::unlabelled_at` meets its contract, by those of the calls: what is read fits, and two squares of it are at most 2^31.
 -- Assumes nothing.
 use Prim.Native.Nat.{_≤_}
 use native.Mathlib.Nat.{mul-le-mul}
@@ -8,10 +8,10 @@ use mir.Syntax.{w32}
 use mir.Val.{SFits}
 use mir.ValLaws.{toZ-ofZ}
 use borrow.Author.Needs.{needs}
 use Rattle.raster.specs.Vector.{Short, size}
 use Rattle.raster.proofs.Signed.{short-wide}
-use Rattle.skeleton.proofs.unlabelled_at.Statement.{statement}
-use Rattle.skeleton.proofs.unlabelled_at.Tie as tie
+use Rattle.raster.proofs.unlabelled_at.Statement.{statement}
+use Rattle.raster.proofs.unlabelled_at.Tie as tie
 
 size-most : (dx dy : ℤ) → Short dx → Short dy → size dx dy ≤ 2147483648
 unfolding size
