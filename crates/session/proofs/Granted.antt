@@ -1,24 +1,27 @@
 -- What a table of refusals that answers 0 grants the effect of its call: slices of the right lengths, numbers within their limits.
 -- Assumes nothing.
-use mathlib.Core.Path.{_≡_, sym, _∙_}
-use mathlib.Core.Bool.{true, not, _&&_, _||_}
+use mathlib.Core.Path.{_≡_, refl, sym, _∙_}
+use mathlib.Core.Bool.{true, false, not, _&&_, _||_}
 use mathlib.Core.List.{List}
-use Prim.Native.Nat.{ℕ, _+_, _*_, _≤_}
+use Prim.Native.Nat.{ℕ, _+_, _*_, _≤_, _<_}
 use native.Mathlib.Nat.{mul-le-mul}
 use native.Mathlib.Omega.{arith}
 use lib.Dec.{eqb, leb, ltb}
 use lib.IntN.{ℤ}
 use lib.ListN.{length}
-use borrow.Author.Tests.{leb-true, ltb-false, eqb-true, not-false}
-use Rattle.raster.specs.Limits.{maxSide, maxQ}
-use Rattle.raster.specs.RefusalLaws.{passed}
+use borrow.Author.Tests.{leb-true, ltb-true, leb-false, ltb-false, eqb-true, not-false}
+use Rattle.raster.specs.Limits.{maxSide, maxQ, maxReach}
+use Rattle.raster.specs.RefusalLaws.{passed, never}
 use Rattle.raster.specs.Tests.{and-left, and-right, or-left, or-right}
 use Rattle.session.specs.declared.Session.{Session}
-use Rattle.session.specs.State.{side, sheetSound, sound, active}
-use Rattle.session.specs.Calls.{notSheet, notMap, shortScratch, fillAnswer, resizeAnswer}
+use Rattle.session.specs.State.{side, cutterSound, mapSound, sheetSound, sound, active}
+use Rattle.session.specs.Directions.{stepRight, stepDown, leaves}
+use Rattle.session.specs.Calls.{notSheet, notMap, shortScratch, fillAnswer, buildRefusal, placeRefusal, runRefusal, OnSheet, resizeAnswer}
+use Rattle.session.proofs.Signs.{stays, between}
 
 -- an active session's sides are within their limit, and so is the number of its pixels
 pub record Limited (s : Session) : Type 0 where
+  pub some : 0 < s .width
   pub wide : s .width ≤ maxSide
   pub high : s .height ≤ maxSide
   pub pixels : s .height * s .width ≤ maxQ
@@ -34,7 +37,7 @@ active-limits s e =
     in
     let across = side-limit (s .width) (and-left (side (s .width)) _ both) in
     let down = side-limit (s .height) (and-right (side (s .width)) _ both) in
-    record { wide = across; high = down; pixels = omega (arith, mul-le-mul down across) }
+    record { some = leb-true 1 (s .width) (and-left (leb 1 (s .width)) _ (and-left (side (s .width)) _ both)); wide = across; high = down; pixels = omega (arith, mul-le-mul down across) }
 
 -- what fill_rectangle requires
 pub fill-granted :
@@ -53,6 +56,86 @@ fill-granted s sheet x y cols rows table done =
         ltb-false _ _ (or-right (ltb (s .width) (x + cols)) _ outside),
       ),
     )
+
+-- what exact and scan require; exact's scratch is long enough
+pub build-granted :
+    (s : Session) (sheet : List ℕ) (map scratch : List ℤ) (e : ℕ) {answer : ℕ} →
+    answer ≡ buildRefusal s sheet map scratch e →
+    answer ≡ 0 →
+    Limited s
+    × ((length sheet ≡ s .height * s .width) × ((length map ≡ 2 * (s .height * s .width)) × (eqb e 1 && shortScratch s scratch ≡ false)))
+unfolding buildRefusal
+build-granted s sheet map scratch e table done =
+    let past-state = passed (not (active s)) 30 _ (omega arith) (sym table ∙ done) in
+    let slices = passed (notSheet s sheet || (notMap s map || (eqb e 1 && shortScratch s scratch))) 12 _ (omega arith) (past-state .1) .0 in
+    let others = or-right (notSheet s sheet) _ slices in (
+      active-limits s (not-false _ (past-state .0)),
+      (
+        eqb-true _ _ (not-false _ (or-left (notSheet s sheet) _ slices)),
+        (eqb-true _ _ (not-false _ (or-left (notMap s map) _ others)), or-right (notMap s map) _ others),
+      ),
+    )
+
+-- none of the rows before it gives 35
+pub before-35 : (s : Session) (sheet : List ℕ) (map scratch : List ℤ) (e : ℕ) → eqb (buildRefusal s sheet map scratch e) 35 ≡ false
+unfolding buildRefusal
+before-35 s sheet map scratch e = never 35 _ (omega arith) refl
+
+-- what the gate at a place requires: it stands on the sheet, and the map holds it
+pub place-granted :
+    (s : Session) (map : List ℤ) (x y q : ℕ) {answer : ℕ} →
+    answer ≡ placeRefusal s map x y q →
+    answer ≡ 0 →
+    Limited s × ((length map ≡ 2 * (s .height * s .width)) × ((x < s .width) × (y < s .height)))
+unfolding placeRefusal
+place-granted s map x y q table done =
+    let past-state = passed (not (active s)) 30 _ (omega arith) (sym table ∙ done) in
+    let past-map = passed (notMap s map) 12 _ (omega arith) (past-state .1) in
+    let past-q = passed (ltb maxQ q) 15 _ (omega arith) (past-map .1) in
+    let outside = passed (leb (s .width) x || leb (s .height) y) 16 _ (omega arith) (past-q .1) .0 in (
+      active-limits s (not-false _ (past-state .0)),
+      (
+        eqb-true _ _ (not-false _ (past-map .0)),
+        (leb-false _ _ (or-left (leb (s .width) x) _ outside), leb-false _ _ (or-right (leb (s .width) x) _ outside)),
+      ),
+    )
+
+-- a run that is let through as far as the gates
+pub run-granted :
+    (s : Session) (map : List ℤ) (d n : ℕ) {answer : ℕ} → answer ≡ runRefusal s map d n → answer ≡ 0 → OnSheet s map d n
+unfolding runRefusal sound cutterSound
+run-granted s map d n table done =
+    let past-state = passed (not (active s)) 30 _ (omega arith) (sym table ∙ done) in
+    let past-map = passed (notMap s map) 12 _ (omega arith) (past-state .1) in
+    let past-numbers = passed (ltb 7 d || not (leb 1 n && leb n maxReach)) 17 _ (omega arith) (past-map .1) in
+    let past-cutter = passed (not (s .lowered)) 32 _ (omega arith) (past-numbers .1) in
+    let stays-on = passed (leaves (stepRight d) (s .width) n (s .x) || leaves (stepDown d) (s .height) n (s .y)) 33 _ (omega arith) (past-cutter .1) .0 in
+    let fine : sound s ≡ true = and-right (s .opened) _ (not-false _ (past-state .0)) in
+    let lowered : s .lowered ≡ true = not-false _ (past-cutter .0) in
+    let down = rw lowered at (and-right (mapSound s) _ (and-right (sheetSound s) _ fine)) in
+    let on : ltb (s .x) (s .width) && ltb (s .y) (s .height) ≡ true = and-left _ (leb (s .q) maxQ) (and-right (s .current) _ down) in
+    let x = ltb-true (s .x) (s .width) (and-left (ltb (s .x) (s .width)) _ on) in
+    let y = ltb-true (s .y) (s .height) (and-right (ltb (s .x) (s .width)) _ on) in
+    record {
+      known = ltb-false 7 d (or-left (ltb 7 d) _ (past-numbers .0));
+      held = eqb-true _ _ (not-false _ (past-map .0));
+      start = (x, y);
+      end = (
+        stays (stepRight d) (s .width) n (s .x) x (or-left (leaves (stepRight d) (s .width) n (s .x)) _ stays-on),
+        stays (stepDown d) (s .height) n (s .y) y (or-right (leaves (stepRight d) (s .width) n (s .x)) _ stays-on),
+      );
+    }
+
+pub on-the-way : {s : Session} {map : List ℤ} {d n i : ℕ} → OnSheet s map d n → i ≤ n → OnSheet s map d i
+on-the-way {s} {map} {d} {n} o l = record {
+  known = o .known;
+  held = o .held;
+  start = o .start;
+  end = (
+    between (stepRight d) (s .width) n (s .x) (o .start .0) (o .end .0) l,
+    between (stepDown d) (s .height) n (s .y) (o .start .1) (o .end .1) l,
+  );
+}
 
 -- what morphology's expand and shrink require
 pub resize-granted :

@@ -1,3 +1,4 @@
 -- What the proofs of several functions use.
 pub mod Product
+pub mod Signs
 pub mod Granted

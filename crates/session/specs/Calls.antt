@@ -3,19 +3,32 @@
 -- Assumes nothing.
 use mathlib.Core.Bool.{Bool, not, cond, _&&_, _||_}
 use mathlib.Core.List.{List, [], _∷_}
-use Prim.Native.Nat.{ℕ, _+_, _*_}
-use lib.Dec.{eqb, ltb}
+use mathlib.Core.Path.{_≡_}
+use Prim.Native.Nat.{ℕ, _+_, _*_, _<_, _≤_}
+use lib.Dec.{eqb, leb, ltb}
 use lib.IntN.{ℤ}
-use lib.ListN.{length}
-use Rattle.raster.specs.Limits.{maxQ}
+use lib.ListN.{length, take, drop}
+use Rattle.raster.specs.Gate.{Gate, passes}
+use Rattle.raster.specs.Limits.{maxQ, maxReach}
+use Rattle.raster.specs.Loop.{some}
+use Rattle.raster.specs.Map.{dxAt, dyAt, sizeAt, unmapped}
+use Rattle.raster.specs.Pixels.{index}
 use Rattle.raster.specs.Refusal.{firstOf}
-use Rattle.raster.specs.Sheet.{filled}
+use Rattle.raster.specs.Sheet.{copperOf, filled}
+use Rattle.raster.specs.Vector.{unlabelled}
+use Rattle.scan.specs.Scan as scan
+use Rattle.exact.specs.Nearest as exact
 use Rattle.session.specs.declared.Session.{Session}
-use Rattle.session.specs.State.{fresh, side, sound, active, upOf}
+use Rattle.session.specs.State.{fresh, side, sound, active, stale, builtBy, downAt, upOf}
+use Rattle.session.specs.Directions.{stepRight, stepDown, leaves, columnAfter, rowAfter}
 
 -- done: the new value; refused: the old one
 abbrev pub onDone : {A : Type 0} → (answer : ℕ) → A → A → A
 onDone a new old = cond (eqb a 0) new old
+
+-- a table that goes on with one more row, which looks at what the rows before it grant
+abbrev pub lastOf : (refusal : ℕ) → (when : Bool) → (number : ℕ) → ℕ
+lastOf refusal when number = cond (eqb refusal 0) (cond when number 0) refusal
 
 -- a slice of other than one byte a pixel; of other than two numbers a pixel; of too few numbers
 abbrev pub notSheet : Session → List ℕ → Bool
@@ -44,6 +57,88 @@ fillAnswer s sheet x y cols rows = firstOf
 abbrev pub filledBy : Session → (x y cols rows v : ℕ) → List ℕ → List ℕ
 filledBy s x y cols rows v sheet = filled (s .width) (s .height) x y cols rows v sheet
 
+-- ---- build: engine 1 exact, 2 8SED, 3 4SED
+
+-- what the scan of engine 2 or 3 leaves, and whether it met a component outside ±2,047
+abbrev pub scanOf : Session → List ℕ → (engine : ℕ) → scan.State
+scanOf s sheet e = scan.scanned (s .width) (eqb e 2) (s .height) sheet
+
+-- the engine's map of the sheet
+abbrev pub mapOf : Session → List ℕ → (engine : ℕ) → List ℤ
+mapOf s sheet e = cond (eqb e 1) (exact.exactMap (copperOf sheet (s .width)) (s .width) (s .height)) (scanOf s sheet e .map)
+
+unfoldable pub buildRefusal : Session → List ℕ → (map scratch : List ℤ) → (engine : ℕ) → ℕ
+buildRefusal s sheet map scratch e = firstOf
+    ((not (active s), 30)
+    ∷ (notSheet s sheet || (notMap s map || (eqb e 1 && shortScratch s scratch)), 12)
+    ∷ (not (leb 1 e && leb e 3), 14)
+    ∷ [])
+
+unfoldable pub buildAnswer : Session → List ℕ → (map scratch : List ℤ) → (engine : ℕ) → ℕ
+buildAnswer s sheet map scratch e = lastOf (buildRefusal s sheet map scratch e) (not (eqb e 1) && scanOf s sheet e .over) 35
+
+-- 35 alone changes something though it refuses: the map is left unlabelled and not current, the cutter up
+abbrev pub buildSession : Session → (engine answer : ℕ) → Session
+buildSession s e a = cond (eqb a 0) (builtBy e s) (cond (eqb a 35) (stale s) s)
+
+abbrev pub buildMap : Session → List ℕ → List ℤ → (engine answer : ℕ) → List ℤ
+buildMap s sheet map e a = cond (eqb a 0) (mapOf s sheet e) (cond (eqb a 35) (unmapped map) map)
+
+-- only exact writes scratch
+abbrev pub buildScratch : Session → List ℤ → (engine answer : ℕ) → List ℤ
+buildScratch s scratch e a = cond (eqb a 0 && eqb e 1) (exact.cleared (s .height * s .width) scratch) scratch
+
+-- ---- place and run: the gates
+
+abbrev pub gateOf : (engine : ℕ) → Gate
+gateOf e = cond (eqb e 1) exact.gate (scan.gate (eqb e 2))
+
+-- pixel p of the map passes a cutter of q: it is unlabelled, or its size passes the engine's gate
+unfoldable pub passesAt : (engine : ℕ) → List ℤ → (p q : ℕ) → Bool
+passesAt e map p q = unlabelled (dxAt map p) (dyAt map p) || passes (gateOf e) (sizeAt map p) q
+
+unfoldable pub placeRefusal : Session → List ℤ → (x y q : ℕ) → ℕ
+placeRefusal s map x y q = firstOf
+    ((not (active s), 30)
+    ∷ (notMap s map, 12)
+    ∷ (ltb maxQ q, 15)
+    ∷ (leb (s .width) x || leb (s .height) y, 16)
+    ∷ (not (s .current), 31)
+    ∷ [])
+
+unfoldable pub placeAnswer : Session → List ℤ → (x y q : ℕ) → ℕ
+placeAnswer s map x y q = lastOf (placeRefusal s map x y q) (not (passesAt (s .engine) map (index (s .width) x y) q)) 34
+
+unfoldable pub runRefusal : Session → List ℤ → (direction count : ℕ) → ℕ
+runRefusal s map d n = firstOf
+    ((not (active s), 30)
+    ∷ (notMap s map, 12)
+    ∷ (ltb 7 d || not (leb 1 n && leb n maxReach), 17)
+    ∷ (not (s .lowered), 32)
+    ∷ (leaves (stepRight d) (s .width) n (s .x) || leaves (stepDown d) (s .height) n (s .y), 33)
+    ∷ [])
+
+-- what a run that those rows let through has: a map of the sheet, and its start and end on the sheet
+pub record OnSheet (s : Session) (map : List ℤ) (direction n : ℕ) : Type 0 where
+  pub known : direction ≤ 7
+  pub held : length map ≡ 2 * (s .height * s .width)
+  pub start : (s .x < s .width) × (s .y < s .height)
+  pub end : (columnAfter direction n (s .x) < s .width) × (rowAfter direction n (s .y) < s .height)
+
+-- the pixel after n steps of a run passes its cutter
+abbrev pub passesAfter : Session → List ℤ → (direction n : ℕ) → Bool
+passesAfter s map d n = passesAt (s .engine) map (index (s .width) (columnAfter d n (s .x)) (rowAfter d n (s .y))) (s .q)
+
+-- some pixel after the start does not
+unfoldable pub blocked : Session → List ℤ → (direction count : ℕ) → Bool
+blocked s map d n = some n (λ i. not (passesAfter s map d (i + 1)))
+
+unfoldable pub runAnswer : Session → List ℤ → (direction count : ℕ) → ℕ
+runAnswer s map d n = lastOf (runRefusal s map d n) (blocked s map d n) 34
+
+abbrev pub runSession : Session → (direction count : ℕ) → Session
+runSession s d n = downAt (columnAfter d n (s .x)) (rowAfter d n (s .y)) (s .q) s
+
 -- ---- lift: done also if the cutter was up; a session that no call could hand back becomes a fresh one
 
 abbrev pub liftSession : Session → Session
@@ -57,3 +152,11 @@ resizeAnswer s sheet map scratch q = firstOf
     ∷ (notSheet s sheet || (notMap s map || shortScratch s scratch), 12)
     ∷ (ltb maxQ q, 15)
     ∷ [])
+
+-- ---- map row y: the part of the map that holds it; an empty part with nothing open, y not below H, or a map of a wrong length
+
+abbrev pub hasRow : Session → List ℤ → (y : ℕ) → Bool
+hasRow s map y = active s && (ltb y (s .height) && eqb (length map) (2 * (s .height * s .width)))
+
+abbrev pub rowOf : Session → List ℤ → (y : ℕ) → List ℤ
+rowOf s map y = cond (hasRow s map y) (take (2 * s .width) (drop (2 * (y * s .width)) map)) []

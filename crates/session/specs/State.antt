@@ -47,6 +47,14 @@ openedAs w h = record { opened = true; width = w; height = h; current = false; e
 abbrev pub stale : Session → Session
 stale s = openedAs (s .width) (s .height)
 
+-- the map is current, built by an engine; the cutter is up
+abbrev pub builtBy : (engine : ℕ) → Session → Session
+builtBy e s = record { opened = true; width = s .width; height = s .height; current = true; engine = e; lowered = false; x = 0; y = 0; q = 0 }
+
+-- the cutter is down at (x, y) with q
+abbrev pub downAt : (x y q : ℕ) → Session → Session
+downAt x y q s = record { opened = s .opened; width = s .width; height = s .height; current = s .current; engine = s .engine; lowered = true; x = x; y = y; q = q }
+
 -- the cutter is up
 abbrev pub upOf : Session → Session
 upOf s = record { opened = s .opened; width = s .width; height = s .height; current = s .current; engine = s .engine; lowered = false; x = 0; y = 0; q = 0 }

@@ -1,13 +1,42 @@
 // The session (document 01): every call takes it by value and hands it back with an answer number, 0 if it was done. No call asks anything of its caller:
 // bad input gets its number, and a refusal changes nothing.
 ghost use mathlib.Core.Path.{_≡_};
-ghost use Prim.Native.Nat.{_*_};
+ghost use mathlib.Core.Bool.{_||_};
+ghost use Prim.Native.Nat.{_+_, _-_, _*_, _≤_, _<_};
+ghost use lib.ListN.{length};
 ghost use Rattle.raster.specs.Map.{unmapped};
 ghost use Rattle.raster.specs.Sheet.{bare};
 ghost use Rattle.exact.specs.Nearest.{cleared};
 ghost use Rattle.morphology.specs.Resize.{expanded, shrunk};
-ghost use Rattle.session.specs.State.{fresh, side, cutterSound, mapSound, sheetSound, sound, active, openedAs, stale, upOf};
-ghost use Rattle.session.specs.Calls.{onDone, openAnswer, fillAnswer, filledBy, liftSession, resizeAnswer};
+ghost use Rattle.raster.specs.Gate.{passes};
+ghost use Rattle.raster.specs.Pixels.{index};
+ghost use Rattle.session.specs.State.{fresh, side, cutterSound, mapSound, sheetSound, sound, active, openedAs, stale, builtBy, downAt, upOf};
+ghost use Rattle.session.specs.Directions.{stepRight, stepDown, along, leaves, columnAfter, rowAfter};
+ghost use Rattle.session.specs.Calls.{
+  onDone,
+  openAnswer,
+  fillAnswer,
+  filledBy,
+  buildRefusal,
+  buildAnswer,
+  buildSession,
+  buildMap,
+  buildScratch,
+  gateOf,
+  passesAt,
+  placeRefusal,
+  placeAnswer,
+  runRefusal,
+  OnSheet,
+  passesAfter,
+  blocked,
+  runAnswer,
+  runSession,
+  liftSession,
+  resizeAnswer,
+  hasRow,
+  rowOf,
+};
 
 // What a session records.
 #[repr(C)]
@@ -101,6 +130,35 @@ fn stale_of(s: Session) -> Session
     opened_as(s.width, s.height)
 }
 
+// A call that changed the copper, or was refused.
+fn stale_on(answer: u32, s: Session) -> Session
+    ensures { λ r. ⌜ r ≡ onDone answer (stale s) s ⌝ }
+{
+    if answer == 0 {
+        return stale_of(s);
+    }
+    s
+}
+
+fn built_by(mut s: Session, engine: u16) -> Session
+    ensures { λ r. ⌜ r ≡ builtBy engine s ⌝ }
+{
+    s = stale_of(s);
+    s.current = true;
+    s.engine = engine;
+    s
+}
+
+fn down_at(mut s: Session, x: u16, y: u16, q: u32) -> Session
+    ensures { λ r. ⌜ r ≡ downAt x y q s ⌝ }
+{
+    s.lowered = true;
+    s.x = x;
+    s.y = y;
+    s.q = q;
+    s
+}
+
 fn up_of(mut s: Session) -> Session
     ensures { λ r. ⌜ r ≡ upOf s ⌝ }
 {
@@ -149,6 +207,69 @@ fn fill_answer(s: Session, sheet: &[u8], x: u16, y: u16, cols: u16, rows: u16) -
     0
 }
 
+fn build_refusal(s: Session, sheet: &[u8], map: &[i16], scratch: &[i16], engine: u16) -> u32
+    ensures { λ r. ⌜ r ≡ buildRefusal s (now (sheet .entry)) (now (map .entry)) (now (scratch .entry)) engine ⌝ }
+{
+    if !is_active(s) {
+        return 30;
+    }
+    let n = pixels_of(s);
+    let short = (engine == 1) & (scratch.len() < n);
+    let slices = (sheet.len() != n) | ((map.len() != 2 * n) | short);
+    let unknown = !((1 <= engine) & (engine <= 3));
+    if slices {
+        return 12;
+    }
+    if unknown {
+        return 14;
+    }
+    0
+}
+
+fn place_refusal(s: Session, map: &[i16], x: u16, y: u16, q: u32) -> u32
+    ensures { λ r. ⌜ r ≡ placeRefusal s (now (map .entry)) x y q ⌝ }
+{
+    if !is_active(s) {
+        return 30;
+    }
+    if map.len() != 2 * pixels_of(s) {
+        return 12;
+    }
+    if Session::MAX_Q < q {
+        return 15;
+    }
+    if (s.width <= x) | (s.height <= y) {
+        return 16;
+    }
+    if !s.current {
+        return 31;
+    }
+    0
+}
+
+fn run_refusal(s: Session, map: &[i16], d: u16, n: u16) -> u32
+    ensures { λ r. ⌜ r ≡ runRefusal s (now (map .entry)) d n ⌝ }
+{
+    if !is_active(s) {
+        return 30;
+    }
+    if map.len() != 2 * pixels_of(s) {
+        return 12;
+    }
+    if (7 < d) | !((1 <= n) & (n <= Session::MAX_COUNT)) {
+        return 17;
+    }
+    if !s.lowered {
+        return 32;
+    }
+    let across = is_leaving(step_right(d), s.width, n, s.x);
+    let down = is_leaving(step_down(d), s.height, n, s.y);
+    if across | down {
+        return 33;
+    }
+    0
+}
+
 fn resize_answer(s: Session, sheet: &[u8], map: &[i16], scratch: &[i16], q: u32) -> u32
     ensures { λ r. ⌜ r ≡ resizeAnswer s (now (sheet .entry)) (now (map .entry)) (now (scratch .entry)) q ⌝ }
 {
@@ -163,6 +284,138 @@ fn resize_answer(s: Session, sheet: &[u8], map: &[i16], scratch: &[i16], q: u32)
         return 15;
     }
     0
+}
+
+// ---- the gates
+
+// A labelled pixel of size a passes a cutter of q.
+fn is_past(engine: u16, a: u32, q: u32) -> bool
+    ensures { λ r. ⌜ r ≡ passes (gateOf engine) a q ⌝ }
+{
+    let size = a as usize;
+    let radius = q as usize;
+    if engine == 1 {
+        return radius < size;
+    }
+    if engine == 2 {
+        return 169 * radius < 144 * size;
+    }
+    2 * radius < size
+}
+
+// The pixel (x, y) passes it; an unlabelled one always does.
+fn passes_at(s: Session, map: &[i16], x: usize, y: usize, q: u32) -> bool
+    requires { ⌜ (length (now map) ≡ 2 * (s .height * s .width)) × ((x < s .width) × (y < s .height)) ⌝ }
+    ensures { λ r. ⌜ r ≡ passesAt (s .engine) (now (map .entry)) (index (s .width) x y) q ⌝ }
+{
+    let p = y * (s.width as usize) + x;
+    raster::unlabelled_at(map, p) | is_past(s.engine, raster::size_at(map, p), q)
+}
+
+// ---- the map's rows
+
+// The map has a row y.
+fn has_row(s: Session, map: &[i16], y: u16) -> bool
+    ensures { λ r. ⌜ r ≡ hasRow s (now (map .entry)) y ⌝ }
+{
+    is_active(s) & ((y < s.height) & (map.len() == 2 * pixels_of(s)))
+}
+
+// ---- the directions
+
+// One step right and down, clockwise from east.
+const STEPS: [[i16; 2]; 8] = [
+    [1, 0],
+    [1, 1],
+    [0, 1],
+    [-1, 1],
+    [-1, 0],
+    [-1, -1],
+    [0, -1],
+    [1, -1],
+];
+
+fn step_right(d: u16) -> i16
+    requires { ⌜ d ≤ 7 ⌝ }
+    ensures { λ r. ⌜ r ≡ stepRight d ⌝ }
+{
+    STEPS[d as usize][0]
+}
+
+fn step_down(d: u16) -> i16
+    requires { ⌜ d ≤ 7 ⌝ }
+    ensures { λ r. ⌜ r ≡ stepDown d ⌝ }
+{
+    STEPS[d as usize][1]
+}
+
+// The place t after n steps.
+fn place_after(step: i16, n: u16, t: u16) -> usize
+    ensures { λ r. ⌜ r ≡ along step n t ⌝ }
+{
+    if 0 < step {
+        return (t as usize) + (n as usize);
+    }
+    if step < 0 {
+        return less(t as usize, n as usize);
+    }
+    t as usize
+}
+
+// t − n, not below 0.
+fn less(t: usize, n: usize) -> usize
+    ensures { λ r. ⌜ r ≡ t - n ⌝ }
+{
+    if t < n {
+        return 0;
+    }
+    t - n
+}
+
+// They leave a line of `side` places.
+fn is_leaving(step: i16, side: u16, n: u16, t: u16) -> bool
+    ensures { λ r. ⌜ r ≡ leaves step side n t ⌝ }
+{
+    if 0 < step {
+        return (side as usize) <= (t as usize) + (n as usize);
+    }
+    if step < 0 {
+        return t < n;
+    }
+    false
+}
+
+// The pixel after n steps of a run passes its cutter.
+fn passes_after(s: Session, map: &[i16], d: u16, n: u16) -> bool
+    requires { ⌜ OnSheet s (now map) d n ⌝ }
+    ensures { λ r. ⌜ r ≡ passesAfter s (now (map .entry)) d n ⌝ }
+{
+    let x = place_after(step_right(d), n, s.x);
+    let y = place_after(step_down(d), n, s.y);
+    passes_at(s, map, x, y, s.q)
+}
+
+// Some pixel of a run after its start does not.
+fn is_blocked(s: Session, map: &[i16], d: u16, count: u16) -> bool
+    requires { ⌜ OnSheet s (now map) d count ⌝ }
+    ensures { λ r. ⌜ r ≡ blocked s (now (map .entry)) d count ⌝ }
+{
+    let mut met = false;
+    for i in 0..count {
+        met = !passes_after(s, map, d, i + 1) | met;
+    }
+    met
+}
+
+// The session with its cutter where the run ends.
+fn run_to(mut s: Session, d: u16, count: u16) -> Session
+    requires { ⌜ (d ≤ 7) × ((columnAfter d count (s .x) < s .width) × (rowAfter d count (s .y) < s .height)) ⌝ }
+    ensures { λ r. ⌜ r ≡ runSession s d count ⌝ }
+{
+    let x = place_after(step_right(d), count, s.x);
+    let y = place_after(step_down(d), count, s.y);
+    s = down_at(s, x as u16, y as u16, s.q);
+    s
 }
 
 // ---- the calls
@@ -181,10 +434,14 @@ impl Session {
         q: 0,
     };
 
-    // The longest side of a sheet, and the largest q.
+    // The longest side of a sheet.
     pub const MAX_SIDE: u16 = 2048;
 
+    // The largest q.
     pub const MAX_Q: u32 = 4194304;
+
+    // The most steps of a run.
+    pub const MAX_COUNT: u16 = 2047;
 
     // The constant, tied to its definition.
     pub fn fresh() -> Session
@@ -214,22 +471,133 @@ impl Session {
         }
     }
 
+    // Row y of the map, two numbers a pixel: the part of the map that holds it, or an empty part.
+    pub fn map_row(self, map: &[i16], y: u16) -> &[i16]
+        ensures { λ r. ⌜ now r ≡ rowOf self (now (map .entry)) y ⌝ }
+    {
+        if !has_row(self, map, y) {
+            return &map[0..0];
+        }
+        let w = self.width as usize;
+        let from = 2 * ((y as usize) * w);
+        &map[from..from + 2 * w]
+    }
+
     // Writes 1 in the rectangle of cols × rows pixels at (x, y); the map is not current then, the cutter up.
-    pub fn paint(self, sheet: &mut [u8], x: u16, y: u16, cols: u16, rows: u16) -> Reply
+    pub fn paint(mut self, sheet: &mut [u8], x: u16, y: u16, cols: u16, rows: u16) -> Reply
         ensures { λ r. ⌜ r .answer ≡ fillAnswer self (now (sheet .entry)) x y cols rows ⌝ }
         ensures { λ r. ⌜ r .session ≡ onDone (r .answer) (stale self) self ⌝ }
         ensures { λ r. ⌜ now (sheet .exit) ≡ onDone (r .answer) (filledBy self x y cols rows 1 (now (sheet .entry))) (now (sheet .entry)) ⌝ }
     {
-        fill(self, sheet, x, y, cols, rows, 1)
+        let answer = fill(self, sheet, x, y, cols, rows, 1);
+        self = stale_on(answer, self);
+        Reply {
+            answer,
+            session: self,
+        }
     }
 
     // Writes 0 there, likewise.
-    pub fn erase(self, sheet: &mut [u8], x: u16, y: u16, cols: u16, rows: u16) -> Reply
+    pub fn erase(mut self, sheet: &mut [u8], x: u16, y: u16, cols: u16, rows: u16) -> Reply
         ensures { λ r. ⌜ r .answer ≡ fillAnswer self (now (sheet .entry)) x y cols rows ⌝ }
         ensures { λ r. ⌜ r .session ≡ onDone (r .answer) (stale self) self ⌝ }
         ensures { λ r. ⌜ now (sheet .exit) ≡ onDone (r .answer) (filledBy self x y cols rows 0 (now (sheet .entry))) (now (sheet .entry)) ⌝ }
     {
-        fill(self, sheet, x, y, cols, rows, 0)
+        let answer = fill(self, sheet, x, y, cols, rows, 0);
+        self = stale_on(answer, self);
+        Reply {
+            answer,
+            session: self,
+        }
+    }
+
+    // Builds the map with engine 1 exact, 2 8SED or 3 4SED; it is current then, the cutter up.
+    pub fn build(mut self, sheet: &[u8], map: &mut [i16], scratch: &mut [i16], engine: u16) -> Reply
+        ensures { λ r. ⌜ r .answer ≡ buildAnswer self (now (sheet .entry)) (now (map .entry)) (now (scratch .entry)) engine ⌝ }
+        ensures { λ r. ⌜ r .session ≡ buildSession self engine (r .answer) ⌝ }
+        ensures { λ r. ⌜ now (map .exit) ≡ buildMap self (now (sheet .entry)) (now (map .entry)) engine (r .answer) ⌝ }
+        ensures { λ r. ⌜ now (scratch .exit) ≡ buildScratch self (now (scratch .entry)) engine (r .answer) ⌝ }
+    {
+        let answer = build_refusal(self, sheet, map, scratch, engine);
+        if answer != 0 {
+            return Reply {
+                answer,
+                session: self,
+            };
+        }
+        let w = self.width as usize;
+        let h = self.height as usize;
+        if engine == 1 {
+            exact::exact(sheet, map, scratch, w, h);
+            self = built_by(self, engine);
+            return Reply {
+                answer,
+                session: self,
+            };
+        }
+        if scan::scan(sheet, map, w, h, engine == 2) {
+            raster::clear_map(map);
+            self = stale_of(self);
+            return Reply {
+                answer: 35,
+                session: self,
+            };
+        }
+        self = built_by(self, engine);
+        Reply {
+            answer,
+            session: self,
+        }
+    }
+
+    // Brings the cutter down at (x, y) with squared radius q, also where it was down before.
+    pub fn place(mut self, map: &[i16], x: u16, y: u16, q: u32) -> Reply
+        ensures { λ r. ⌜ r .answer ≡ placeAnswer self (now (map .entry)) x y q ⌝ }
+        ensures { λ r. ⌜ r .session ≡ onDone (r .answer) (downAt x y q self) self ⌝ }
+    {
+        let answer = place_refusal(self, map, x, y, q);
+        if answer != 0 {
+            return Reply {
+                answer,
+                session: self,
+            };
+        }
+        if passes_at(self, map, x as usize, y as usize, q) {
+            self = down_at(self, x, y, q);
+            return Reply {
+                answer,
+                session: self,
+            };
+        }
+        Reply {
+            answer: 34,
+            session: self,
+        }
+    }
+
+    // Moves the lowered cutter by `count` steps, whole or not at all.
+    pub fn run(mut self, map: &[i16], direction: u16, count: u16) -> Reply
+        ensures { λ r. ⌜ r .answer ≡ runAnswer self (now (map .entry)) direction count ⌝ }
+        ensures { λ r. ⌜ r .session ≡ onDone (r .answer) (runSession self direction count) self ⌝ }
+    {
+        let answer = run_refusal(self, map, direction, count);
+        if answer != 0 {
+            return Reply {
+                answer,
+                session: self,
+            };
+        }
+        if is_blocked(self, map, direction, count) {
+            return Reply {
+                answer: 34,
+                session: self,
+            };
+        }
+        self = run_to(self, direction, count);
+        Reply {
+            answer,
+            session: self,
+        }
     }
 
     // Lifts the cutter; a session that no call could hand back becomes a fresh one.
@@ -311,11 +679,10 @@ impl Session {
     }
 }
 
-// Writes v in a rectangle.
-fn fill(mut s: Session, sheet: &mut [u8], x: u16, y: u16, cols: u16, rows: u16, v: u8) -> Reply
-    ensures { λ r. ⌜ r .answer ≡ fillAnswer s (now (sheet .entry)) x y cols rows ⌝ }
-    ensures { λ r. ⌜ r .session ≡ onDone (r .answer) (stale s) s ⌝ }
-    ensures { λ r. ⌜ now (sheet .exit) ≡ onDone (r .answer) (filledBy s x y cols rows v (now (sheet .entry))) (now (sheet .entry)) ⌝ }
+// Writes v in a rectangle, unless the answer says otherwise.
+fn fill(s: Session, sheet: &mut [u8], x: u16, y: u16, cols: u16, rows: u16, v: u8) -> u32
+    ensures { λ r. ⌜ r ≡ fillAnswer s (now (sheet .entry)) x y cols rows ⌝ }
+    ensures { λ r. ⌜ now (sheet .exit) ≡ onDone r (filledBy s x y cols rows v (now (sheet .entry))) (now (sheet .entry)) ⌝ }
 {
     let answer = fill_answer(s, sheet, x, y, cols, rows);
     if answer == 0 {
@@ -329,8 +696,7 @@ fn fill(mut s: Session, sheet: &mut [u8], x: u16, y: u16, cols: u16, rows: u16, 
             rows as usize,
             v,
         );
-        s = stale_of(s);
-        return Reply { answer, session: s };
+        return answer;
     }
-    Reply { answer, session: s }
+    answer
 }

@@ -13,12 +13,12 @@ fill-rectangle-requires c κs =
 
 returns : tie.Need-returns
 returns c =
-    let r = c .before .before .before in
+    let r = c .before .before in
     let t = r .before .before .before .before in
-    rw (eq-eqb _ 0 (t .if1 .taken)) (t .before .fill-answer .ensures, (c .stale-of .ensures, r .fill-rectangle .ensures))
+    rw (eq-eqb _ 0 (t .if1 .taken)) (t .before .fill-answer .ensures, r .fill-rectangle .ensures)
 
 returns-2 : tie.Need-returns-2
-returns-2 c = rw (ne-eqb _ 0 (c .if1 .left)) (c .before .fill-answer .ensures, (refl, refl))
+returns-2 c = rw (ne-eqb _ 0 (c .if1 .left)) (c .before .fill-answer .ensures, refl)
 
 pub fill-spec : {M : Type 1} → statement M
 fill-spec =
@@ -28,7 +28,6 @@ fill-spec =
     (λ c. search needs)
     (λ c. search needs)
     fill-rectangle-requires
-    (λ c κs. search needs)
     (λ c. search needs)
     returns
     (λ c. search needs)

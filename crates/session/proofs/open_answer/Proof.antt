@@ -2,12 +2,13 @@
 -- Assumes nothing.
 use mathlib.Core.Path.{_≡_}
 use mathlib.Core.Bool.{false, not, _&&_}
+use native.Mathlib.Omega.{arith}
 use borrow.Author.Needs.{needs}
 use borrow.Author.Tests.{eq-eqb, ne-eqb}
 use Rattle.raster.specs.Refusal.{firstOf}
 use Rattle.session.specs.State.{side}
 use Rattle.session.specs.Calls.{openAnswer}
-use Rattle.session.proofs.Product.{product-fits}
+use Rattle.session.proofs.Product.{product-small}
 use Rattle.session.proofs.open_answer.Statement.{statement}
 use Rattle.session.proofs.open_answer.Tie as tie
 
@@ -21,7 +22,7 @@ fine : (c : tie.Else1) → let a = c .before .before .before .before .args in no
 fine c = let b = c .before in rw (b .before .is-side .ensures, b .is-side2 .ensures) at (c .if1 .left)
 
 mul-if2 : tie.Need-mul-if2
-mul-if2 c = let r = c .before .before .before .before .fits in product-fits _ _ (r .h) (r .w)
+mul-if2 c = let r = c .before .before .before .before .fits in omega (arith, product-small _ _ (r .h) (r .w))
 
 returns-2 : tie.Need-returns-2
 unfolding openAnswer firstOf

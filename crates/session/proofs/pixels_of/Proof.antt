@@ -2,13 +2,13 @@
 -- Assumes nothing.
 use native.Mathlib.Omega.{arith}
 use borrow.Author.Needs.{needs}
-use Rattle.session.proofs.Product.{product-fits}
+use Rattle.session.proofs.Product.{product-small}
 use Rattle.session.proofs.pixels_of.Statement.{statement}
 use Rattle.session.proofs.pixels_of.Tie as tie
 
 mul-result : tie.Need-mul-result
 mul-result c =
-    let s = c .before .before .args .s in product-fits (s .height) (s .width) (omega arith) (omega arith)
+    let s = c .before .before .args .s in omega (arith, product-small (s .height) (s .width) (omega arith) (omega arith))
 
 pub pixels-of-spec : {M : Type 1} → statement M
 pixels-of-spec = tie.close (tie.spec (λ c. search needs) (λ c. search needs) mul-result (λ c. search needs))

@@ -1,0 +1,43 @@
+-- `session::Session::run` meets its contract: the answer is run_refusal's, or on 0, which grants what the gates require, theirs.
+-- Assumes nothing.
+use mathlib.Core.Path.{refl}
+use borrow.Author.Needs.{needs}
+use borrow.Author.Tests.{eq-eqb, ne-eqb}
+use Rattle.session.specs.Calls.{runAnswer}
+use Rattle.session.proofs.Granted.{run-granted}
+use Rattle.session.proofs.Session.run.Statement.{statement}
+use Rattle.session.proofs.Session.run.Tie as tie
+
+returns : tie.Need-returns
+unfolding runAnswer
+returns c = let r = c .before .run-refusal in rw (← r .ensures, ne-eqb (r .result) 0 (c .if1 .taken)) (refl, refl)
+
+is-blocked-requires : tie.Need-is-blocked-requires
+is-blocked-requires c κs = run-granted _ _ _ _ (c .before .run-refusal .ensures) (c .if1 .left)
+
+returns-2 : tie.Need-returns-2
+unfolding runAnswer
+returns-2 c =
+    let b = c .before in
+    let l = b .before in
+    let r = l .before .run-refusal in
+    rw (← r .ensures, eq-eqb (r .result) 0 (l .if1 .left), ← b .is-blocked .ensures, c .if2 .taken) (refl, refl)
+
+run-to-requires : tie.Need-run-to-requires
+run-to-requires c κs =
+    let l = c .before .before in
+    let o = run-granted _ _ _ _ (l .before .run-refusal .ensures) (l .if1 .left) in (o .known, o .end)
+
+returns-3 : tie.Need-returns-3
+unfolding runAnswer
+returns-3 c =
+    let e = c .before in
+    let b = e .before in
+    let l = b .before in
+    let r = l .before .run-refusal in
+    rw (← r .ensures, eq-eqb (r .result) 0 (l .if1 .left), ← b .is-blocked .ensures, e .if2 .left) (l .if1 .left, c .run-to .ensures)
+
+pub run-spec : {M : Type 1} → statement M
+run-spec =
+    tie.close
+    (tie.spec (λ c κs. search needs) returns is-blocked-requires returns-2 run-to-requires returns-3)

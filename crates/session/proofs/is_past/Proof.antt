@@ -1,0 +1,30 @@
+-- `session::is_past` meets its contract: each arm is the gate of its engine.
+-- Assumes nothing.
+use mathlib.Core.Path.{_≡_}
+use Prim.Native.Nat.{ℕ, _*_}
+use native.Mathlib.Omega.{arith}
+use borrow.Author.Needs.{needs}
+use borrow.Author.Tests.{eq-eqb, ne-eqb}
+use Rattle.raster.specs.Gate.{passes}
+use Rattle.session.proofs.is_past.Statement.{statement}
+use Rattle.session.proofs.is_past.Tie as tie
+
+once : (n : ℕ) → 1 * n ≡ n
+once n = omega arith
+
+returns : tie.Need-returns
+unfolding passes
+returns c = let s = c .before .args in rw (eq-eqb _ 1 (c .if1 .taken), once (s .q), once (s .a))
+
+returns-2 : tie.Need-returns-2
+unfolding passes
+returns-2 c = rw (ne-eqb _ 1 (c .before .if1 .left), eq-eqb _ 2 (c .if2 .taken))
+
+returns-3 : tie.Need-returns-3
+unfolding passes
+returns-3 c = rw (ne-eqb _ 1 (c .before .if1 .left), ne-eqb _ 2 (c .if2 .left), once (c .before .before .args .a))
+
+pub is-past-spec : {M : Type 1} → statement M
+is-past-spec =
+    tie.close
+    (tie.spec returns (λ c. search needs) (λ c. search needs) returns-2 (λ c. search needs) returns-3)

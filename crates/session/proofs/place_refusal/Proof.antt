@@ -1,0 +1,74 @@
+-- `session::place_refusal` meets its contract: each return rewrites by the tests that led there.
+-- Assumes nothing.
+use mathlib.Core.Path.{_≡_}
+use mathlib.Core.Bool.{true, false, not}
+use Prim.Native.Nat.{_*_}
+use native.Mathlib.Omega.{arith}
+use lib.Dec.{eqb}
+use lib.ListN.{length}
+use borrow.Author.Needs.{needs}
+use borrow.Author.Tests.{eq-eqb, ne-eqb, lt-ltb, le-ltb, not-false}
+use Rattle.raster.specs.Refusal.{firstOf}
+use Rattle.session.specs.State.{active}
+use Rattle.session.specs.Calls.{placeRefusal}
+use Rattle.session.proofs.Granted.{active-limits}
+use Rattle.session.proofs.place_refusal.Statement.{statement}
+use Rattle.session.proofs.place_refusal.Tie as tie
+
+returns : tie.Need-returns
+unfolding placeRefusal firstOf
+returns c = simp (rw (c .before .is-active .ensures) at (c .if1 .taken))
+
+-- past the first test
+fine : (c : tie.Else1) → not (active (c .before .before .args .s)) ≡ false
+fine c = rw (c .before .is-active .ensures) at (c .if1 .left)
+
+mul-if2 : tie.Need-mul-if2
+mul-if2 c = omega (arith, active-limits (c .before .before .before .args .s) (not-false _ (fine (c .before))) .pixels)
+
+returns-2 : tie.Need-returns-2
+unfolding placeRefusal firstOf
+returns-2 c =
+    let p = c .before in simp (fine (p .before), rw (p .pixels-of .ensures) at (ne-eqb _ _ (c .if2 .taken)))
+
+-- past the second
+sized : (c : tie.Else2) → let a = c .before .before .before .before .args in eqb (length (a .map .now)) (2 * (a .s .height * a .s .width)) ≡ true
+sized c = rw (c .before .pixels-of .ensures) at (eq-eqb _ _ (c .if2 .left))
+
+returns-3 : tie.Need-returns-3
+unfolding placeRefusal firstOf
+returns-3 c = let e = c .before in simp (fine (e .before .before), sized e, lt-ltb _ _ (c .if3 .taken))
+
+returns-4 : tie.Need-returns-4
+unfolding placeRefusal firstOf
+returns-4 c =
+    let q = c .before .before .before in
+    let e = q .before in simp (fine (e .before .before), sized e, le-ltb _ _ (q .if3 .left), c .if4 .taken)
+
+returns-5 : tie.Need-returns-5
+unfolding placeRefusal firstOf
+returns-5 c =
+    let i = c .before .before in
+    let q = i .before .before .before in
+    let e = q .before in simp (fine (e .before .before), sized e, le-ltb _ _ (q .if3 .left), i .if4 .left, c .if5 .taken)
+
+returns-6 : tie.Need-returns-6
+unfolding placeRefusal firstOf
+returns-6 c =
+    let i = c .before .before in
+    let q = i .before .before .before in
+    let e = q .before in simp (fine (e .before .before), sized e, le-ltb _ _ (q .if3 .left), i .if4 .left, c .if5 .left)
+
+pub place-refusal-spec : {M : Type 1} → statement M
+place-refusal-spec =
+    tie.close
+    (tie.spec
+    (λ c κs. search needs)
+    returns
+    (λ c κs. search needs)
+    mul-if2
+    returns-2
+    returns-3
+    returns-4
+    returns-5
+    returns-6)

@@ -1,0 +1,103 @@
+-- `session::run_refusal` meets its contract: each return rewrites by the tests that led there.
+-- Assumes nothing.
+use mathlib.Core.Path.{_≡_}
+use mathlib.Core.Bool.{true, false, not, _&&_, _||_}
+use Prim.Native.Nat.{_*_, _≤_}
+use native.Mathlib.Omega.{arith}
+use lib.Dec.{eqb, leb, ltb}
+use lib.ListN.{length}
+use borrow.Author.Needs.{needs}
+use borrow.Author.Tests.{eq-eqb, ne-eqb, ltb-false, not-false}
+use Rattle.raster.specs.Limits.{maxReach}
+use Rattle.raster.specs.Refusal.{firstOf}
+use Rattle.raster.specs.Tests.{or-left}
+use Rattle.session.specs.State.{active}
+use Rattle.session.specs.Directions.{stepRight, stepDown, leaves}
+use Rattle.session.specs.Calls.{runRefusal}
+use Rattle.session.proofs.Granted.{active-limits}
+use Rattle.session.proofs.Signs.{leaving}
+use Rattle.session.proofs.run_refusal.Statement.{statement}
+use Rattle.session.proofs.run_refusal.Tie as tie
+
+returns : tie.Need-returns
+unfolding runRefusal firstOf
+returns c = simp (rw (c .before .is-active .ensures) at (c .if1 .taken))
+
+-- past the first test
+fine : (c : tie.Else1) → not (active (c .before .before .args .s)) ≡ false
+fine c = rw (c .before .is-active .ensures) at (c .if1 .left)
+
+mul-if2 : tie.Need-mul-if2
+mul-if2 c = omega (arith, active-limits (c .before .before .before .args .s) (not-false _ (fine (c .before))) .pixels)
+
+returns-2 : tie.Need-returns-2
+unfolding runRefusal firstOf
+returns-2 c =
+    let p = c .before in simp (fine (p .before), rw (p .pixels-of .ensures) at (ne-eqb _ _ (c .if2 .taken)))
+
+-- past the second
+sized : (c : tie.Else2) → let a = c .before .before .before .before .args in eqb (length (a .map .now)) (2 * (a .s .height * a .s .width)) ≡ true
+sized c = rw (c .before .pixels-of .ensures) at (eq-eqb _ _ (c .if2 .left))
+
+returns-3 : tie.Need-returns-3
+unfolding runRefusal firstOf
+returns-3 c = let e = c .before in simp (fine (e .before .before), sized e, c .if3 .taken)
+
+returns-4 : tie.Need-returns-4
+unfolding runRefusal firstOf
+returns-4 c =
+    let q = c .before .before in
+    let e = q .before in simp (fine (e .before .before), sized e, q .if3 .left, c .if4 .taken)
+
+-- past the third
+known : (c : tie.Else3) → c .before .before .before .before .before .args .d ≤ 7
+known c =
+    let d = c .before .before .before .before .before .args .d in
+    let n = c .before .before .before .before .before .args .n in
+    ltb-false 7 d (or-left (ltb 7 d) (not (leb 1 n && leb n maxReach)) (c .if3 .left))
+
+-- what the last test looks at
+off : (c : tie.After-is-leaving2) → let l = c .before .before in
+    let a = l .before .before .before .before .before .before .before .before .before .args in
+    l .is-leaving .result || c .is-leaving2 .result
+    ≡ leaves (stepRight (a .d)) (a .s .width) (a .n) (a .s .x) || leaves (stepDown (a .d)) (a .s .height) (a .n) (a .s .y)
+off c =
+    let l = c .before .before in
+    rw (
+      leaving _ _ _ (l .before .step-right .ok) (l .before .step-right .ensures) (l .is-leaving .ensures),
+      leaving _ _ _ (c .before .step-down .ok) (c .before .step-down .ensures) (c .is-leaving2 .ensures),
+    )
+
+returns-5 : tie.Need-returns-5
+unfolding runRefusal firstOf
+returns-5 c =
+    let l = c .before in
+    let z = l .before .before .before .before in
+    let q = z .before .before in
+    let e = q .before in simp (fine (e .before .before), sized e, q .if3 .left, z .if4 .left, rw (off l) at (c .if5 .taken))
+
+returns-6 : tie.Need-returns-6
+unfolding runRefusal firstOf
+returns-6 c =
+    let l = c .before in
+    let z = l .before .before .before .before in
+    let q = z .before .before in
+    let e = q .before in simp (fine (e .before .before), sized e, q .if3 .left, z .if4 .left, rw (off l) at (c .if5 .left))
+
+pub run-refusal-spec : {M : Type 1} → statement M
+run-refusal-spec =
+    tie.close
+    (tie.spec
+    (λ c κs. search needs)
+    returns
+    (λ c κs. search needs)
+    mul-if2
+    returns-2
+    returns-3
+    returns-4
+    (λ c κs. known (c .before .before))
+    (λ c κs. search needs)
+    (λ c κs. known (c .before .before .before .before))
+    (λ c κs. search needs)
+    returns-5
+    returns-6)

@@ -1,0 +1,13 @@
+-- `session::step_right` meets its contract: the table is the definition's.
+-- Assumes nothing.
+use borrow.Author.Needs.{needs}
+use Rattle.session.proofs.Signs.{read, read-is}
+use Rattle.session.proofs.step_right.Statement.{statement}
+use Rattle.session.proofs.step_right.Tie as tie
+
+returns : tie.Need-returns
+unfolding read
+returns c = read-is (c .before .args .d) (c .before .pre) .0
+
+pub step-right-spec : {M : Type 1} → statement M
+step-right-spec = tie.close (tie.spec (λ c. search needs) (λ c. search needs) (λ c. search needs) returns)

@@ -1,0 +1,46 @@
+-- The eight directions: document 01, "Calls", run. Clockwise from east, x to the right, y down.
+-- Assumes nothing.
+use mathlib.Core.Bool.{Bool, false}
+use mathlib.Core.List.{List, [], _∷_}
+use Prim.Native.Nat.{ℕ, zero, suc, _+_, _-_}
+use lib.Dec.{leb, ltb}
+use lib.IntN.{ℤ, pos, negsuc}
+use lib.ListN.{getD}
+
+-- one step of each, to the right and down
+unfoldable pub steps : List (ℤ × ℤ)
+steps =
+    (pos 1, pos 0)
+    ∷ (pos 1, pos 1)
+    ∷ (pos 0, pos 1)
+    ∷ (negsuc 0, pos 1)
+    ∷ (negsuc 0, pos 0)
+    ∷ (negsuc 0, negsuc 0)
+    ∷ (pos 0, negsuc 0)
+    ∷ (pos 1, negsuc 0)
+    ∷ []
+
+abbrev pub stepRight : (direction : ℕ) → ℤ
+stepRight d = getD steps d (pos 0, pos 0) .0
+
+abbrev pub stepDown : (direction : ℕ) → ℤ
+stepDown d = getD steps d (pos 0, pos 0) .1
+
+-- place t of a line after n steps of +1, 0 or −1
+abbrev pub along : (step : ℤ) (n t : ℕ) → ℕ
+along (pos zero) n t = t
+along (pos (suc k)) n t = t + n
+along (negsuc k) n t = t - n
+
+-- those steps leave a line of `side` places
+abbrev pub leaves : (step : ℤ) (side n t : ℕ) → Bool
+leaves (pos zero) side n t = false
+leaves (pos (suc k)) side n t = leb side (t + n)
+leaves (negsuc k) side n t = ltb t n
+
+-- the pixel after n steps from (x, y)
+abbrev pub columnAfter : (direction n x : ℕ) → ℕ
+columnAfter d n x = along (stepRight d) n x
+
+abbrev pub rowAfter : (direction n y : ℕ) → ℕ
+rowAfter d n y = along (stepDown d) n y
