@@ -71,6 +71,7 @@ pub extern "C" fn abi_shrink(
 // The pixels of a map that its skeleton keeps, as 1.
 #[no_mangle]
 pub extern "C" fn abi_skeleton(map: &[i16], out: &mut [u8], w: usize, h: usize)
+    requires { ⌜ (w ≤ 2048) × (h ≤ 2048) ⌝ }
     requires { ⌜ (length (now map) ≡ 2 * (h * w)) × (length (now out) ≡ h * w) ⌝ }
     ensures { λ _. ⌜ now (out .exit) ≡ skeletonOf (now (map .entry)) w h ⌝ }
 {

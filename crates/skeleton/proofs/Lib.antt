@@ -5,6 +5,7 @@ pub mod Theorems
 pub mod Table
 pub mod Tables
 pub mod Rows
+pub mod Bands
 pub mod Neighbours
 pub mod Raising
 pub mod Covering

@@ -29,6 +29,11 @@ module _ {base : ℕ} {f : ℕ → ℕ} {before : List ℕ} where
     over = λ p m. getD-set-other after (base + n) p v 0 (omega arith) ∙ r .over p (omega arith);
   }
 
+-- the same bytes, told otherwise
+pub row-as : {base n : ℕ} {f k : ℕ → ℕ} {before after : List ℕ} → RowWritten base n f before after → ((x : ℕ) → x < n → f x ≡ k x)
+    → RowWritten base n k before after
+row-as r e = record { long = r .long; here = λ x l. r .here x l ∙ e x l; under = r .under; over = r .over }
+
 -- the other rows of a sheet of width w are left alone
 pub row-other : (w b : ℕ) {f : ℕ → ℕ} {before after : List ℕ} → RowWritten (b * w) w f before after → (x a : ℕ) → x < w → a ≢ b
     → getD after (index w x a) 0 ≡ getD before (index w x a) 0

@@ -1,16 +1,14 @@
 -- The entries of the two tables, and one test of all of each, which antt computes: the entry at place k is g at k + 1.
 -- Assumes nothing.
-use mathlib.Core.Path.{_≡_}
+use mathlib.Core.Path.{refl}
 use mathlib.Core.List.{List, [], _∷_}
 use mathlib.Core.Bool.{Bool, true, false}
-use Prim.Native.Nat.{ℕ, _+_, _<_}
-use native.Mathlib.Omega.{arith}
-use lib.Dec.{T, eqb, ltb, eqb→eq, ltb→lt}
+use Prim.Native.Nat.{ℕ, _+_}
+use lib.Dec.{T, eqb, eqb→eq}
 use lib.ListN.{getD}
-use mir.Syntax.{w32}
-use mir.Val.{Fits}
 use Rattle.raster.specs.Distance.{gap}
 use Rattle.skeleton.specs.Table.{g, least}
+use Rattle.skeleton.specs.Bands.{Listed}
 use Rattle.skeleton.proofs.Table.{every, at}
 
 unfoldable pub g4s : List ℕ
@@ -19,12 +17,9 @@ g4s = 0 ∷ 1 ∷ 1 ∷ 1 ∷ 2 ∷ 4 ∷ 4 ∷ 4 ∷ 4 ∷ 5 ∷ 8 ∷ 8 ∷ 8 
 unfoldable pub g8s : List ℕ
 g8s = 0 ∷ 0 ∷ 1 ∷ 1 ∷ 1 ∷ 2 ∷ 2 ∷ 2 ∷ 4 ∷ 4 ∷ 5 ∷ 5 ∷ 5 ∷ 8 ∷ 8 ∷ 8 ∷ 8 ∷ 8 ∷ 10 ∷ 10 ∷ 13 ∷ 13 ∷ 13 ∷ 13 ∷ 13 ∷ 16 ∷ 17 ∷ 17 ∷ 17 ∷ 18 ∷ 18 ∷ 18 ∷ 20 ∷ 20 ∷ 25 ∷ 25 ∷ 25 ∷ 25 ∷ 25 ∷ 25 ∷ 25 ∷ 29 ∷ 29 ∷ 29 ∷ 29 ∷ 32 ∷ 32 ∷ 32 ∷ 32 ∷ 32 ∷ 34 ∷ 34 ∷ 37 ∷ 40 ∷ 40 ∷ 40 ∷ 40 ∷ 40 ∷ 41 ∷ 41 ∷ 41 ∷ 45 ∷ 45 ∷ 45 ∷ 45 ∷ 50 ∷ 50 ∷ 50 ∷ 50 ∷ 50 ∷ 50 ∷ 50 ∷ 52 ∷ 52 ∷ 58 ∷ 58 ∷ 58 ∷ 58 ∷ 58 ∷ 58 ∷ 61 ∷ 61 ∷ 61 ∷ 61 ∷ 61 ∷ 65 ∷ 65 ∷ 65 ∷ 65 ∷ 68 ∷ 72 ∷ 72 ∷ 72 ∷ 72 ∷ 72 ∷ 72 ∷ 72 ∷ 72 ∷ 74 ∷ 74 ∷ 80 ∷ 80 ∷ 80 ∷ 80 ∷ 80 ∷ 80 ∷ 85 ∷ 85 ∷ 85 ∷ 85 ∷ 85 ∷ 85 ∷ 85 ∷ 89 ∷ 89 ∷ 89 ∷ 89 ∷ 97 ∷ 97 ∷ 97 ∷ 97 ∷ 97 ∷ 97 ∷ 97 ∷ 97 ∷ 98 ∷ 98 ∷ 98 ∷ 100 ∷ 100 ∷ 106 ∷ 106 ∷ 106 ∷ 106 ∷ 106 ∷ 106 ∷ 109 ∷ 113 ∷ 113 ∷ 113 ∷ 113 ∷ 113 ∷ 113 ∷ 113 ∷ 113 ∷ 116 ∷ 117 ∷ 117 ∷ 117 ∷ 125 ∷ 125 ∷ 125 ∷ 125 ∷ 125 ∷ 125 ∷ 125 ∷ 125 ∷ 128 ∷ 128 ∷ 128 ∷ 128 ∷ 128 ∷ 130 ∷ 130 ∷ 136 ∷ 136 ∷ 136 ∷ 136 ∷ 136 ∷ 136 ∷ 145 ∷ 145 ∷ 145 ∷ 145 ∷ 145 ∷ 145 ∷ 145 ∷ 145 ∷ 145 ∷ 145 ∷ 145 ∷ 149 ∷ 149 ∷ 149 ∷ 149 ∷ 157 ∷ 157 ∷ 157 ∷ 157 ∷ 157 ∷ 157 ∷ 157 ∷ 157 ∷ 160 ∷ 162 ∷ 162 ∷ 162 ∷ 162 ∷ 162 ∷ 162 ∷ 164 ∷ 164 ∷ 169 ∷ 169 ∷ 169 ∷ 170 ∷ 170 ∷ 170 ∷ 178 ∷ 178 ∷ 178 ∷ 178 ∷ 180 ∷ 180 ∷ 180 ∷ 180 ∷ 180 ∷ 180 ∷ 181 ∷ 181 ∷ 181 ∷ 185 ∷ 185 ∷ 185 ∷ 185 ∷ 193 ∷ 193 ∷ 193 ∷ 193 ∷ 193 ∷ 193 ∷ 193 ∷ 193 ∷ 200 ∷ 200 ∷ 200 ∷ 200 ∷ 200 ∷ 200 ∷ 200 ∷ 200 ∷ 200 ∷ 202 ∷ 202 ∷ 205 ∷ 208 ∷ 208 ∷ 208 ∷ 208 ∷ 208 ∷ 218 ∷ 218 ∷ 218 ∷ 218 ∷ 218 ∷ 218 ∷ 218 ∷ 218 ∷ 218 ∷ 218 ∷ 221 ∷ 221 ∷ 221 ∷ 221 ∷ 221 ∷ 225 ∷ 225 ∷ 225 ∷ 225 ∷ 232 ∷ 232 ∷ 232 ∷ 232 ∷ 232 ∷ 233 ∷ 233 ∷ 233 ∷ 241 ∷ 241 ∷ 241 ∷ 241 ∷ 242 ∷ 242 ∷ 242 ∷ 242 ∷ 242 ∷ 242 ∷ 242 ∷ 244 ∷ 244 ∷ 250 ∷ 250 ∷ 250 ∷ 250 ∷ 250 ∷ 250 ∷ 260 ∷ 260 ∷ 260 ∷ 260 ∷ 260 ∷ 260 ∷ 260 ∷ 260 ∷ 260 ∷ 260 ∷ 265 ∷ 265 ∷ 265 ∷ 265 ∷ 265 ∷ 265 ∷ 265 ∷ 269 ∷ 269 ∷ 269 ∷ 269 ∷ 274 ∷ 274 ∷ 274 ∷ 277 ∷ 277 ∷ 277 ∷ 277 ∷ 277 ∷ 288 ∷ 288 ∷ 288 ∷ 288 ∷ 288 ∷ 288 ∷ 288 ∷ 288 ∷ 288 ∷ 288 ∷ 288 ∷ 288 ∷ 288 ∷ 290 ∷ 290 ∷ 296 ∷ 296 ∷ 296 ∷ 296 ∷ 296 ∷ 296 ∷ 305 ∷ 305 ∷ 305 ∷ 305 ∷ 305 ∷ 305 ∷ 305 ∷ 306 ∷ 306 ∷ 306 ∷ 313 ∷ 313 ∷ 313 ∷ 313 ∷ 313 ∷ 313 ∷ 313 ∷ 313 ∷ 313 ∷ 317 ∷ 317 ∷ 317 ∷ 317 ∷ 320 ∷ 325 ∷ 325 ∷ 325 ∷ 325 ∷ 325 ∷ 325 ∷ 325 ∷ 337 ∷ 337 ∷ 337 ∷ 337 ∷ 337 ∷ 337 ∷ 337 ∷ 337 ∷ 337 ∷ 337 ∷ 337 ∷ 337 ∷ 338 ∷ 338 ∷ 338 ∷ 340 ∷ 340 ∷ 346 ∷ 346 ∷ 346 ∷ 346 ∷ 346 ∷ 346 ∷ []
 
--- the test of one entry, and one of its range
+-- the test of one entry
 right : Bool → ℕ → ℕ → Bool
 right corner k x = eqb x (g corner (k + 1))
-
-small : ℕ → ℕ → Bool
-small k x = ltb x 1000
 
 sides : T (every (right false) 0 g4s)
 unfolding g4s right g least gap
@@ -34,19 +29,10 @@ corners : T (every (right true) 0 g8s)
 unfolding g8s right g least gap
 corners = tt
 
-pub side-at : (k : ℕ) → k < 400 → getD g4s k 0 ≡ g false (k + 1)
+pub side-entries : Listed false g4s
 unfolding right g4s
-side-at k l = eqb→eq (getD g4s k 0) (g false (k + 1)) (at (right false) g4s sides k l)
+side-entries = record { long = refl; entry = λ k l. eqb→eq (getD g4s k 0) (g false (k + 1)) (at (right false) g4s sides k l) }
 
-pub corner-at : (k : ℕ) → k < 400 → getD g8s k 0 ≡ g true (k + 1)
+pub corner-entries : Listed true g8s
 unfolding right g8s
-corner-at k l = eqb→eq (getD g8s k 0) (g true (k + 1)) (at (right true) g8s corners k l)
-
--- each fits 32 bits
-pub side-fits : (k : ℕ) → k < 400 → Fits w32 (getD g4s k 0)
-unfolding small g4s
-side-fits k l = record { fits = omega (arith, ltb→lt (getD g4s k 0) 1000 (at small g4s tt k l)) }
-
-pub corner-fits : (k : ℕ) → k < 400 → Fits w32 (getD g8s k 0)
-unfolding small g8s
-corner-fits k l = record { fits = omega (arith, ltb→lt (getD g8s k 0) 1000 (at small g8s tt k l)) }
+corner-entries = record { long = refl; entry = λ k l. eqb→eq (getD g8s k 0) (g true (k + 1)) (at (right true) g8s corners k l) }

@@ -1,4 +1,5 @@
 pub mod Table
 pub mod Skeleton
 pub mod Rows
+pub mod Bands
 pub mod Rebuild

@@ -1,18 +1,16 @@
 // The skeleton of a map, and the sheet rebuilt from marks on it (document 01, "Skeleton").
 ghost use mathlib.Core.Path.{_≡_};
-ghost use mathlib.Core.Bool.{true, false, cond};
+ghost use mathlib.Core.Bool.{true, false, cond, _||_};
 ghost use Prim.Native.Nat.{ℕ, _+_, _-_, _*_, _≤_, _<_};
-ghost use lib.Dec.{ltb};
+ghost use lib.Dec.{eqb, ltb};
 ghost use lib.ListN.{length, getD};
-ghost use Rattle.skeleton.specs.Table.{g};
-ghost use Rattle.raster.specs.Loop.{some};
 ghost use Rattle.raster.specs.Distance.{gap};
 ghost use Rattle.raster.specs.Map.{Inside, sizeAt};
 ghost use Rattle.envelope.specs.Best.{priceOf, Costs};
 ghost use Rattle.envelope.specs.Stack.{Entries, holder};
-ghost use Rattle.raster.specs.Pixels.{index};
-ghost use Rattle.skeleton.specs.Skeleton.{takes, within, takenBy, removed, kept, skeletonOf, rebuilt};
+ghost use Rattle.skeleton.specs.Skeleton.{kept, skeletonOf, rebuilt};
 ghost use Rattle.skeleton.specs.Rows.{RowWritten};
+ghost use Rattle.skeleton.specs.Bands.{Listed, counted, Framed, Blank, Measured, Band, keptIn};
 ghost use Rattle.skeleton.specs.Rebuild.{rowOf, line, costOf, Priced, hits, hitBy, Raised, RowRaised, Passed};
 
 // g4(n) at place n − 1: the least squared distance from a side neighbour of a place outside the disk of size n.
@@ -823,125 +821,188 @@ const G8: [u16; 400] = [
     346,
 ];
 
-// The two tables, read.
-fn side(n: usize) -> u32
-    requires { ⌜ (1 ≤ n) × (n ≤ 400) ⌝ }
-    ensures { λ r. ⌜ r ≡ g false n ⌝ }
-{
-    G4[n - 1] as u32
-}
-
-fn corner(n: usize) -> u32
-    requires { ⌜ (1 ≤ n) × (n ≤ 400) ⌝ }
-    ensures { λ r. ⌜ r ≡ g true n ⌝ }
-{
-    G8[n - 1] as u32
-}
-
 // ---- the skeleton
+//
+// A band holds a row of the map in three parts: from 0 on its pixels' sizes, from 2,050 on the sizes that they take off at their sides, from 4,100 on those
+// at their corners. Column x stands at x + 1 of each part. 0 stands for a place off the sheet and for a pixel that takes nothing off, since no pixel of
+// size 0 is kept anyway. So each pixel is looked up in the tables once, and compared with its neighbours' entries with no test of the sheet's edges. The
+// tables are lent from above, since a constant that is indexed is laid out anew at each look.
 
-// A neighbour of size n, at a side or at a corner, takes off a pixel of size s.
-fn takes_off(slanted: bool, n: u32, s: u32) -> bool
-    ensures { λ r. ⌜ r ≡ takes slanted n s ⌝ }
+// Where the tables have what a pixel of size n takes off; for one that takes nothing off, the first place, which has 0.
+fn place_of(n: u32) -> usize
+    ensures { λ r. ⌜ (r < 400) × (r + 1 ≡ counted n) ⌝ }
 {
     if n < 1 {
-        return false;
+        return 0;
     }
     if 400 < n {
-        return false;
-    }
-    if slanted {
-        return corner(n as usize) == s;
-    }
-    side(n as usize) == s
-}
-
-// The neighbour (x + a − 1, y + b − 1) is on the sheet and takes off the pixel (x, y), whose size is s.
-fn taken_by(map: &[i16], w: usize, h: usize, x: usize, y: usize, a: usize, b: usize, s: u32) -> bool
-    requires { ⌜ (length (now map) ≡ 2 * (h * w)) × ((x < w) × (y < h)) ⌝ }
-    requires { ⌜ (a ≤ 2) × ((b ≤ 2) × (s ≡ sizeAt (now map) (index w x y))) ⌝ }
-    ensures { λ r. ⌜ r ≡ takenBy (now (map .entry)) w h x y a b ⌝ }
-{
-    if (a == 1) & (b == 1) {
-        return false;
-    }
-    let i = x + a;
-    let j = y + b;
-    if on_side(w, i) & on_side(h, j) {
-        let n = raster::size_at(map, (j - 1) * w + (i - 1));
-        return takes_off((a != 1) & (b != 1), n, s);
-    }
-    false
-}
-
-// Place t − 1 lies on a side of n pixels.
-fn on_side(n: usize, t: usize) -> bool
-    ensures { λ r. ⌜ r ≡ within n t ⌝ }
-{
-    (1 <= t) & (t <= n)
-}
-
-// One of the three neighbours of column x + a − 1 takes it off.
-fn taken_from(map: &[i16], w: usize, h: usize, x: usize, y: usize, a: usize, s: u32) -> bool
-    requires { ⌜ (length (now map) ≡ 2 * (h * w)) × ((x < w) × (y < h)) ⌝ }
-    requires { ⌜ (a ≤ 2) × (s ≡ sizeAt (now map) (index w x y)) ⌝ }
-    ensures { λ r. ⌜ r ≡ some 3 (λ b. takenBy (now (map .entry)) w h x y a b) ⌝ }
-{
-    let below = taken_by(map, w, h, x, y, a, 2, s);
-    let beside = taken_by(map, w, h, x, y, a, 1, s);
-    let above = taken_by(map, w, h, x, y, a, 0, s);
-    below | (beside | above)
-}
-
-// One of the eight neighbours takes it off.
-fn is_removed(map: &[i16], w: usize, h: usize, x: usize, y: usize, s: u32) -> bool
-    requires { ⌜ (length (now map) ≡ 2 * (h * w)) × ((x < w) × (y < h)) ⌝ }
-    requires { ⌜ s ≡ sizeAt (now map) (index w x y) ⌝ }
-    ensures { λ r. ⌜ r ≡ removed (now (map .entry)) w h x y ⌝ }
-{
-    let right = taken_from(map, w, h, x, y, 2, s);
-    let here = taken_from(map, w, h, x, y, 1, s);
-    let left = taken_from(map, w, h, x, y, 0, s);
-    right | (here | left)
-}
-
-// 1 where the pixel is kept, 0 elsewhere.
-fn keep(map: &[i16], w: usize, h: usize, x: usize, y: usize) -> u8
-    requires { ⌜ (length (now map) ≡ 2 * (h * w)) × ((x < w) × (y < h)) ⌝ }
-    ensures { λ r. ⌜ r ≡ cond (kept (now (map .entry)) w h x y) 1 0 ⌝ }
-{
-    let p = y * w + x;
-    if raster::unlabelled_at(map, p) {
         return 0;
     }
-    let s = raster::size_at(map, p);
-    if s == 0 {
+    (n - 1) as usize
+}
+
+// What a pixel of size n takes off, by one of the tables.
+fn taken_off(table: &[u16], n: u32) -> u32
+    requires { ⌜ length (now table) ≡ 400 ⌝ }
+    ensures { λ r. ⌜ r ≡ getD (now (table .entry)) (counted n - 1) 0 ⌝ }
+{
+    let p = place_of(n);
+    table[p] as u32
+}
+
+// The size n of a pixel, 0 if it is unlabelled, for then it is not kept either.
+fn own_size(unlabelled: bool, n: u32) -> u32
+    ensures { λ r. ⌜ r ≡ cond unlabelled 0 n ⌝ }
+{
+    if unlabelled {
         return 0;
     }
-    if is_removed(map, w, h, x, y, s) {
+    n
+}
+
+// The band of the row that starts at `base`.
+fn measure_row(map: &[i16], base: usize, w: usize, g4: &[u16], g8: &[u16], band: &mut [u32])
+    requires { ⌜ (2 * (base + w) ≤ length (now map)) × (w ≤ 2048) ⌝ }
+    requires { ⌜ Listed false (now g4) × (Listed true (now g8) × Framed w (now band)) ⌝ }
+    ensures { λ _. ⌜ Measured (now (map .entry)) base w w (now (band .exit)) ⌝ }
+{
+    for x in 0..w {
+        let n = raster::size_at(map, base + x);
+        let unlabelled = raster::unlabelled_at(map, base + x);
+        band[1 + x] = own_size(unlabelled, n);
+        band[2051 + x] = taken_off(g4, n);
+        band[4101 + x] = taken_off(g8, n);
+    }
+}
+
+// Every number 0.
+fn clear(band: &mut [u32])
+    requires { ⌜ length (now band) ≡ 6150 ⌝ }
+    ensures { λ _. ⌜ Blank (now (band .exit)) ⌝ }
+{
+    for i in 0..6150 {
+        band[i] = 0;
+    }
+}
+
+// The band of row y, which may be the one below the last.
+fn fill_band(map: &[i16], w: usize, h: usize, y: usize, g4: &[u16], g8: &[u16], band: &mut [u32])
+    requires { ⌜ (w ≤ 2048) × (length (now map) ≡ 2 * (h * w)) ⌝ }
+    requires { ⌜ Listed false (now g4) × (Listed true (now g8) × Framed w (now band)) ⌝ }
+    ensures { λ _. ⌜ Band (now (map .entry)) w h (y + 1) (now (band .exit)) ⌝ }
+{
+    if y < h {
+        measure_row(map, y * w, w, g4, g8, band);
+        return;
+    }
+    clear(band);
+}
+
+// One of three neighbours takes off a pixel of size s.
+fn taken(s: u32, a: u32, b: u32, c: u32) -> bool
+    ensures { λ r. ⌜ r ≡ eqb a s || (eqb b s || eqb c s) ⌝ }
+{
+    (a == s) | ((b == s) | (c == s))
+}
+
+// 1 where the pixel of column x is kept, 0 elsewhere, by the bands of its row and of those beside it.
+fn keep(above: &[u32], row: &[u32], below: &[u32], x: usize) -> u8
+    requires { ⌜ (x < 2048) × ((length (now above) ≡ 6150) × ((length (now row) ≡ 6150) × (length (now below) ≡ 6150))) ⌝ }
+    ensures { λ r. ⌜ r ≡ keptIn (now (above .entry)) (now (row .entry)) (now (below .entry)) x ⌝ }
+{
+    let s = row[1 + x];
+    let right = taken(
+        s,
+        below[4100 + (x + 2)],
+        row[2050 + (x + 2)],
+        above[4100 + (x + 2)],
+    );
+    let here = (below[2050 + (x + 1)] == s) | (above[2050 + (x + 1)] == s);
+    let left = taken(s, below[4100 + x], row[2050 + x], above[4100 + x]);
+    if (s == 0) | (right | (here | left)) {
         return 0;
     }
     1
 }
 
-// Row y of the skeleton.
-fn keep_row(map: &[i16], out: &mut [u8], w: usize, h: usize, y: usize)
-    requires { ⌜ (length (now map) ≡ 2 * (h * w)) × ((length (now out) ≡ h * w) × (y < h)) ⌝ }
-    ensures { λ _. ⌜ RowWritten (y * w) w (λ x. cond (kept (now (map .entry)) w h x y) 1 0) (now (out .entry)) (now (out .exit)) ⌝ }
+// The row of the skeleton that starts at `base`.
+fn keep_row(out: &mut [u8], base: usize, w: usize, above: &[u32], row: &[u32], below: &[u32])
+    requires { ⌜ (w ≤ 2048) × (base + w ≤ length (now out)) ⌝ }
+    requires { ⌜ (length (now above) ≡ 6150) × ((length (now row) ≡ 6150) × (length (now below) ≡ 6150)) ⌝ }
+    ensures { λ _. ⌜ RowWritten base w (keptIn (now (above .entry)) (now (row .entry)) (now (below .entry))) (now (out .entry)) (now (out .exit)) ⌝ }
 {
     for x in 0..w {
-        out[y * w + x] = keep(map, w, h, x, y);
+        out[base + x] = keep(above, row, below, x);
+    }
+}
+
+// Row y of the skeleton, by the bands of that row and of the one above; `below` becomes the band of the one below.
+fn turn(
+    map: &[i16],
+    out: &mut [u8],
+    w: usize,
+    h: usize,
+    y: usize,
+    g4: &[u16],
+    g8: &[u16],
+    above: &[u32],
+    row: &[u32],
+    below: &mut [u32],
+)
+    requires { ⌜ (w ≤ 2048) × ((length (now map) ≡ 2 * (h * w)) × ((length (now out) ≡ h * w) × (y < h))) ⌝ }
+    requires { ⌜ Listed false (now g4) × Listed true (now g8) ⌝ }
+    requires { ⌜ Band (now map) w h y (now above) × (Band (now map) w h (y + 1) (now row) × Framed w (now below)) ⌝ }
+    ensures { λ _. ⌜ Band (now (map .entry)) w h (y + 1 + 1) (now (below .exit)) ⌝ }
+    ensures { λ _. ⌜ RowWritten (y * w) w (λ x. cond (kept (now (map .entry)) w h x y) 1 0) (now (out .entry)) (now (out .exit)) ⌝ }
+{
+    fill_band(map, w, h, y + 1, g4, g8, below);
+    keep_row(out, y * w, w, above, row, below);
+}
+
+// All rows, three at a time: each of a, b and c is by turns the band above, that of the row and the one below, so that none is copied. At first a is the
+// band above the first row.
+fn keep_rows(
+    map: &[i16],
+    out: &mut [u8],
+    w: usize,
+    h: usize,
+    g4: &[u16],
+    g8: &[u16],
+    a: &mut [u32],
+    b: &mut [u32],
+    c: &mut [u32],
+)
+    requires { ⌜ (w ≤ 2048) × ((h ≤ 2048) × ((length (now map) ≡ 2 * (h * w)) × (length (now out) ≡ h * w))) ⌝ }
+    requires { ⌜ Listed false (now g4) × Listed true (now g8) ⌝ }
+    requires { ⌜ Band (now map) w h 0 (now a) × (Framed w (now b) × Framed w (now c)) ⌝ }
+    ensures { λ _. ⌜ now (out .exit) ≡ skeletonOf (now (map .entry)) w h ⌝ }
+{
+    fill_band(map, w, h, 0, g4, g8, b);
+    let mut y = 0;
+    while y < h {
+        turn(map, out, w, h, y, g4, g8, a, b, c);
+        if h <= y + 1 {
+            return;
+        }
+        turn(map, out, w, h, y + 1, g4, g8, b, c, a);
+        if h <= y + 2 {
+            return;
+        }
+        turn(map, out, w, h, y + 2, g4, g8, c, a, b);
+        y += 3;
     }
 }
 
 // The skeleton of the map of w × h pixels, a byte a pixel.
 pub fn skeleton(map: &[i16], out: &mut [u8], w: usize, h: usize)
+    requires { ⌜ (w ≤ 2048) × (h ≤ 2048) ⌝ }
     requires { ⌜ (length (now map) ≡ 2 * (h * w)) × (length (now out) ≡ h * w) ⌝ }
     ensures { λ _. ⌜ now (out .exit) ≡ skeletonOf (now (map .entry)) w h ⌝ }
 {
-    for y in 0..h {
-        keep_row(map, out, w, h, y);
-    }
+    let mut a = [0u32; 6150];
+    let mut b = [0u32; 6150];
+    let mut c = [0u32; 6150];
+    keep_rows(map, out, w, h, &G4, &G8, &mut a, &mut b, &mut c);
 }
 
 // ---- the sheet rebuilt from marks

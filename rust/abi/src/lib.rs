@@ -142,12 +142,13 @@ fn resizable(sheet: &[u8], map: &[i16], scratch: &[i16], w: usize, h: usize, q: 
 ///
 /// # Panics
 ///
-/// If out does not have `w` × `h` bytes or the map not two numbers for each of them.
+/// If a side is above 2,048, out does not have `w` × `h` bytes or the map not two numbers for each of them.
 pub fn skeleton(map: &[i16], out: &mut [u8], w: usize, h: usize) {
-    assert_eq!(w.checked_mul(h), Some(out.len()), "out is not {w} × {h}");
+    limit(w, h);
+    assert_eq!(w * h, out.len(), "out is not {w} × {h}");
     assert_eq!(map.len(), 2 * out.len(), "the map is not 2 × {w} × {h}");
     // SAFETY: each pointer comes with the length of the slice it is from, out is lent to nobody else, and the function's `requires` (the
-    // two lengths) are asserted above. It is proved to return and to stay within the two slices.
+    // sides and the two lengths) are asserted above. It is proved to return and to stay within the two slices.
     unsafe { ffi::abi_skeleton(map.as_ptr(), map.len(), out.as_mut_ptr(), out.len(), w, h) }
 }
 

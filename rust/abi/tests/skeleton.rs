@@ -282,15 +282,21 @@ fn skeleton_short_out() {
 }
 
 #[test]
-#[should_panic(expected = "out is not")]
-fn skeleton_sides_that_wrap() {
-    abi::skeleton(&[], &mut [], 1 << 32, usize::MAX / 2 + 1);
-}
-
-#[test]
 #[should_panic(expected = "the map is not 2 × 3 × 2")]
 fn skeleton_short_map() {
     abi::skeleton(&[0; 11], &mut [0; 6], 3, 2);
+}
+
+#[test]
+#[should_panic(expected = "a side above 2,048")]
+fn skeleton_too_wide() {
+    abi::skeleton(&[0; 4_098], &mut [0; 2_049], 2_049, 1);
+}
+
+#[test]
+#[should_panic(expected = "a side above 2,048")]
+fn skeleton_too_high() {
+    abi::skeleton(&[0; 4_098], &mut [0; 2_049], 1, 2_049);
 }
 
 #[test]

@@ -1,4 +1,5 @@
-//! Skeleton and rebuild in plain safe Rust by the library's algorithms.
+//! Skeleton and rebuild in plain safe Rust, rebuild by the library's algorithm; the skeleton looks in the tables at each neighbour, up to the
+//! first that takes the pixel off.
 
 use crate::plain_exact::{envelope, Entry, Pixel, SIDE, UNLABELLED};
 

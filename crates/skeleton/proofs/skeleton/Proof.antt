@@ -1,38 +1,28 @@
--- `skeleton::skeleton` meets its contract. The invariant: the first y rows are written.
+-- `skeleton::skeleton` meets its contract: its tables are those of g4 and g8, and its bands start blank, as that of the row above the first is.
 -- Assumes nothing.
-use Prim.Native.Nat.{_-_, _≤_}
-use mathlib.Core.Bool.{cond}
-use native.Mathlib.Omega.{arith}
-use Rattle.skeleton.specs.Skeleton.{kept, skeletonOf}
-use Rattle.skeleton.proofs.Rows.{RowsWritten, rows-none, rows-more, rows-all}
+use mathlib.Core.Path.{refl}
+use borrow.Author.Needs.{needs}
+use Rattle.skeleton.proofs.Tables.{g4s, g8s, side-entries, corner-entries}
+use Rattle.skeleton.proofs.Bands.{blank, blank-framed, band-blank}
 use Rattle.skeleton.proofs.skeleton.Statement.{statement}
 use Rattle.skeleton.proofs.skeleton.Tie as tie
 
-abbrev Inv-loop : tie.InvT-loop
-Inv-loop map out₀ w h y₀ out y = RowsWritten w y (λ x y. cond (kept map w h x y) 1 0) out₀ out × (y ≤ h)
-
-abbrev μ-loop : tie.MeasureT-loop
-μ-loop map out₀ w h y₀ out y = h - y
-
-loop-again : tie.Need-loop-again Inv-loop μ-loop
-loop-again c =
-    let r = c .before .before in
-    (rows-more (r .before .before .before .loop .inv .0) (r .keep-row .ensures), omega arith)
-
-returns : tie.Need-returns Inv-loop μ-loop
-unfolding skeletonOf
-returns c = let l = c .before in rows-all (l .loop .inv .0) (l .before .before .pre .1) (omega arith)
+keep-rows-requires : tie.Need-keep-rows-requires
+unfolding g4s g8s
+keep-rows-requires c κs =
+    let p = c .before .before .before .before .before .before .before .pre in
+    let w = p .0 .0 in
+    ((w, (p .0 .1, p .1)), ((side-entries, corner-entries), (band-blank blank w refl, (blank-framed blank w, blank-framed blank w))))
 
 pub skeleton-spec : {M : Type 1} → statement M
 skeleton-spec =
     tie.close
     (tie.spec
-    Inv-loop
-    μ-loop
-    (λ c. (rows-none, omega arith))
-    (λ c κs. omega (arith, c .before .before .loop .inv .0 .long))
-    (λ c. omega arith)
-    (λ c. omega arith)
-    loop-again
-    (λ c. c .before .loop .inv .0 .long)
-    returns)
+    (λ c. search needs)
+    (λ c. search needs)
+    (λ c. search needs)
+    (λ c. search needs)
+    (λ c. search needs)
+    keep-rows-requires
+    (λ c. search needs)
+    (λ c. search needs))

@@ -1,0 +1,140 @@
+-- Bands: how a part is filled, how a band is measured column by column, and when a measured or blank one is the band of a row.
+-- Assumes nothing.
+use mathlib.Core.Path.{_≡_, refl, sym, ap, _∙_}
+use mathlib.Core.Logic.{_≢_}
+use mathlib.Core.Bool.{Bool, true, false, _&&_, and-false, false≢true}
+use mathlib.Core.List.{List}
+use Prim.Native.Nat.{ℕ, _+_, _-_, _*_, _<_, _≤_}
+use native.Mathlib.Decide.{decLe, ℕ-discrete}
+use native.Mathlib.Nat.{zero-add}
+use native.Mathlib.Omega.{arith}
+use lib.Dec.{leb}
+use lib.IntN.{ℤ}
+use lib.ListN.{length, getD, set, length-set, replicate, getD-replicate}
+use lib.Seq.{getD-set-same, getD-set-other}
+use borrow.Author.Tests.{le-leb, lt-leb, leb-true}
+use Rattle.raster.specs.Tests.{and-left, and-right, cond-ind}
+use Rattle.skeleton.specs.Table.{g}
+use Rattle.skeleton.specs.Skeleton.{within}
+use Rattle.skeleton.specs.Bands.{Listed, counted, ownAt, takenAt, onSheet, Part, Framed, Blank, Measured, Band}
+
+pub part-none : {start : ℕ} {f : ℕ → ℕ} {s : List ℕ} → Part start 0 f s
+part-none = record { entry = λ i l. absurd (omega arith) }
+
+module _ {start n : ℕ} {f : ℕ → ℕ} {s : List ℕ} where
+  part-more : {v : ℕ} → Part start n f s → start + n < length s → v ≡ f n → Part start (n + 1) f (set s (start + n) v)
+  part-more {v} r l e = record {
+    entry = λ i m. elim (ℕ-discrete i n) [
+      | yes q ↦ rw q (getD-set-same s (start + n) v 0 l ∙ e)
+      | no q ↦ getD-set-other s (start + n) (start + i) v 0 (omega arith) ∙ r .entry i (omega arith)
+    ];
+  }
+
+  -- a number elsewhere changes nothing
+  part-other : (p v : ℕ) → Part start n f s → ((i : ℕ) → i < n → start + i ≢ p) → Part start n f (set s p v)
+  part-other p v r d = record { entry = λ i m. getD-set-other s p (start + i) v 0 (d i m) ∙ r .entry i m }
+
+-- so it is with the ends
+framed-set : {w : ℕ} {s : List ℕ} (p v : ℕ) → Framed w s → ((k : ℕ) → k ≤ 2 → (2050 * k ≢ p) × (2050 * k + (w + 1) ≢ p)) → Framed w (set s p v)
+framed-set {w} {s} p v f d = record {
+  long = length-set s p v ∙ f .long;
+  left = λ k l. getD-set-other s p (2050 * k) v 0 (d k l .0) ∙ f .left k l;
+  right = λ k l. getD-set-other s p (2050 * k + (w + 1)) v 0 (d k l .1) ∙ f .right k l;
+}
+
+-- ---- the tables
+
+-- a size that is looked up has a place
+counted-range : (n : ℕ) → (1 ≤ counted n) × (counted n ≤ 400)
+counted-range n =
+    cond-ind (λ v. (1 ≤ v) × (v ≤ 400)) (leb 1 n && leb n 400)
+    (λ e. (leb-true 1 n (and-left (leb 1 n) (leb n 400) e), leb-true n 400 (and-right (leb 1 n) (leb n 400) e))) (λ e. (omega arith, omega arith))
+
+pub listed-at : {corner : Bool} {s : List ℕ} → Listed corner s → (n : ℕ) → getD s (counted n - 1) 0 ≡ g corner (counted n)
+listed-at {corner} e n =
+    let r = counted-range n in
+    let q : counted n - 1 + 1 ≡ counted n = omega (arith, r) in
+    e .entry (counted n - 1) (omega (arith, r)) ∙ ap (g corner) q
+
+-- ---- the columns of a row
+
+module _ {m : List ℤ} {base w : ℕ} where
+  pub measured-none : {s : List ℕ} → Framed w s → Measured m base w 0 s
+  measured-none f = record { framed = f; sizes = part-none; sides = part-none; corners = part-none }
+
+  pub measured-more : {n a b c : ℕ} {s : List ℕ} → Measured m base w n s → n < w → w ≤ 2048
+      → a ≡ ownAt m (base + n) → b ≡ takenAt false m (base + n) → c ≡ takenAt true m (base + n)
+      → Measured m base w (n + 1) (set (set (set s (1 + n) a) (2051 + n) b) (4101 + n) c)
+  measured-more {n} {a} {b} {c} {s} r l few e f g =
+      let long = r .framed .long in
+      let one : length (set s (1 + n) a) ≡ 6150 = length-set s (1 + n) a ∙ long in
+      let two : length (set (set s (1 + n) a) (2051 + n) b) ≡ 6150 = length-set (set s (1 + n) a) (2051 + n) b ∙ one in
+      record {
+        framed =
+            framed-set (4101 + n) c
+            (framed-set (2051 + n) b (framed-set (1 + n) a (r .framed) (λ k q. (omega arith, omega arith))) (λ k q. (omega arith, omega arith)))
+            (λ k q. (omega arith, omega arith));
+        sizes =
+            part-other (4101 + n) c (part-other (2051 + n) b (part-more (r .sizes) (omega arith) e) (λ i q. omega arith)) (λ i q. omega arith);
+        sides =
+            part-other (4101 + n) c (part-more (part-other (1 + n) a (r .sides) (λ i q. omega arith)) (omega arith) f) (λ i q. omega arith);
+        corners =
+            part-more (part-other (2051 + n) b (part-other (1 + n) a (r .corners) (λ i q. omega arith)) (λ i q. omega arith)) (omega arith) g;
+      }
+
+-- ---- a band
+
+-- a part with its ends
+ended : {w h y start : ℕ} {s : List ℕ} (f : ℕ → ℕ) → getD s start 0 ≡ 0 → getD s (start + (w + 1)) 0 ≡ 0 → Part (start + 1) w (λ x. f (y * w + x)) s
+    → y < h → Part start (w + 2) (λ i. onSheet w h f i (y + 1)) s
+ended {w} {h} {y} {start} {s} f a b r l = record {
+  entry = λ i m. elim (ℕ-discrete i 0) [
+    | yes q ↦ let e : start + i ≡ start = omega arith in rw (e, q) a
+    | no q ↦ elim (decLe i w) [
+      | yes k ↦ let e : start + 1 + (i - 1) ≡ start + i = omega arith in
+          let d : y + 1 - 1 ≡ y = omega arith in
+          rw (le-leb 1 i (omega arith), le-leb i w k, le-leb 1 (y + 1) (omega arith), le-leb (y + 1) h (omega arith), d, ← e) (r .entry (i - 1) (omega arith))
+      | no k ↦ let e : i ≡ w + 1 = omega arith in rw (lt-leb i w (omega arith), le-leb 1 i (omega arith), e) b
+    ]
+  ];
+}
+
+-- one number more cleared
+pub zeros-more : {n : ℕ} {s : List ℕ} → Part 0 n (λ i. 0) s → n < length s → Part 0 (n + 1) (λ i. 0) (set s n 0)
+zeros-more {n} {s} r l = rw (zero-add n) at (part-more r (omega arith) refl)
+
+zero-at : {s : List ℕ} → Blank s → (p : ℕ) → p < 6150 → getD s p 0 ≡ 0
+zero-at b p l = rw (zero-add p) at (b .zeros .entry p l)
+
+-- a new one
+pub blank : Blank (replicate 6150 0)
+blank = record { long = refl; zeros = record { entry = λ i l. getD-replicate 6150 (0 + i) 0 0 (omega arith) } }
+
+-- a blank band has its ends
+pub blank-framed : {w : ℕ} {s : List ℕ} → Blank s → w ≤ 2048 → Framed w s
+blank-framed {w} {s} b few = record {
+  long = b .long;
+  left = λ k l. zero-at b (2050 * k) (omega arith);
+  right = λ k l. zero-at b (2050 * k + (w + 1)) (omega arith);
+}
+
+module _ {m : List ℤ} {w h : ℕ} {s : List ℕ} where
+  pub band-measured : {y : ℕ} → Measured m (y * w) w w s → y < h → Band m w h (y + 1) s
+  band-measured {y} r l = record {
+    framed = r .framed;
+    sizes = λ z e k. let d : z ≡ y = omega arith in rw d (r .sizes);
+    sides = ended (takenAt false m) (r .framed .left 1 (omega arith)) (r .framed .right 1 (omega arith)) (r .sides) l;
+    corners = ended (takenAt true m) (r .framed .left 2 (omega arith)) (r .framed .right 2 (omega arith)) (r .corners) l;
+  }
+
+  -- a row off the sheet
+  pub band-blank : {j : ℕ} → Blank s → w ≤ 2048 → within h j ≡ false → Band m w h j s
+  band-blank {j} b few off = record {
+    framed = blank-framed b few;
+    sizes = λ y e l. absurd (false≢true (sym off ∙ on y e l));
+    sides = record { entry = λ i l. rw (off, and-false (within w i)) (zero-at b (2050 + i) (omega arith)) };
+    corners = record { entry = λ i l. rw (off, and-false (within w i)) (zero-at b (4100 + i) (omega arith)) };
+  }
+    where
+      on : (y : ℕ) → j ≡ y + 1 → y < h → within h j ≡ true
+      on y e l = rw (le-leb 1 j (omega arith), le-leb j h (omega arith))

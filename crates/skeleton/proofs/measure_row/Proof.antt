@@ -1,0 +1,68 @@
+-- `skeleton::measure_row` meets its contract. The invariant: the first x columns are measured.
+-- Assumes nothing.
+use mathlib.Core.Path.{_≡_, _∙_}
+use Prim.Native.Nat.{_-_, _≤_}
+use native.Mathlib.Omega.{arith}
+use lib.ListN.{length-set}
+use Rattle.skeleton.specs.Bands.{Measured}
+use Rattle.skeleton.proofs.Bands.{listed-at, measured-none, measured-more}
+use Rattle.skeleton.proofs.measure_row.Statement.{statement}
+use Rattle.skeleton.proofs.measure_row.Tie as tie
+
+abbrev Inv-loop : tie.InvT-loop
+Inv-loop map base w g4 g8 band₀ x₀ band x = Measured map base w x band × (x ≤ w)
+
+abbrev μ-loop : tie.MeasureT-loop
+μ-loop map base w g4 g8 band₀ x₀ band x = w - x
+
+loop-holds : tie.Need-loop-holds Inv-loop μ-loop
+loop-holds c = (measured-none (c .before .before .before .pre .1 .1 .1), omega arith)
+
+loop-again : tie.Need-loop-again Inv-loop μ-loop
+loop-again c =
+    let s = c .before in
+    let o = s .before in
+    let u = o .before in
+    let n = u .before in
+    let l = n .before .before in
+    let p = l .before .before .before .before .pre in
+    let k = n .size-at .result in (
+      measured-more (l .loop .inv .0) (omega arith) (p .0 .1) (o .own-size .ensures ∙ rw (u .unlabelled-at .ensures .0, n .size-at .ensures))
+          (s .taken-off .ensures ∙ listed-at (p .1 .0) k ∙ rw (n .size-at .ensures)) (c .taken-off2 .ensures ∙ listed-at (p .1 .1 .0) k ∙ rw (n .size-at .ensures)),
+      omega arith,
+    )
+
+returns : tie.Need-returns Inv-loop μ-loop
+returns c =
+    let l = c .before in
+    let n : l .loop .x ≡ l .before .before .before .before .args .w = omega arith in
+    rw n at (l .loop .inv .0)
+
+pub measure-row-spec : {M : Type 1} → statement M
+measure-row-spec =
+    tie.close
+    (tie.spec
+    Inv-loop
+    μ-loop
+    loop-holds
+    (λ c. omega arith)
+    (λ c κs. omega arith)
+    (λ c. omega arith)
+    (λ c κs. omega arith)
+    (λ c κs. tt)
+    (λ c. omega arith)
+    (λ c. omega arith)
+    (λ c. omega arith)
+    (λ c κs. omega arith)
+    (λ c. omega arith)
+    (λ c. omega arith)
+    (λ c. simp length-set (omega (arith, c .before .before .before .before .before .loop .inv .0 .framed .long)))
+    (λ c κs. omega arith)
+    (λ c. omega arith)
+    (λ c. omega arith)
+    (λ c. simp length-set (omega (arith, c .before .before .before .before .before .before .loop .inv .0 .framed .long)))
+    (λ c. omega arith)
+    (λ c. omega arith)
+    loop-again
+    (λ c. omega (arith, c .before .loop .inv .0 .framed .long, c .before .before .before .before .before .pre .1 .1 .1 .long))
+    returns)

@@ -1,0 +1,74 @@
+-- What the code works out on the way to the skeleton: a band, which holds a row of the map in three parts of 2,050 numbers.
+-- Assumes nothing.
+use mathlib.Core.Path.{_≡_}
+use mathlib.Core.Bool.{Bool, true, false, cond, _&&_, _||_}
+use mathlib.Core.List.{List}
+use Prim.Native.Nat.{ℕ, _+_, _-_, _*_, _<_, _≤_}
+use lib.Dec.{eqb, leb}
+use lib.IntN.{ℤ}
+use lib.ListN.{length, getD}
+use Rattle.raster.specs.Map.{dxAt, dyAt, sizeAt}
+use Rattle.raster.specs.Pixels.{index}
+use Rattle.raster.specs.Vector.{unlabelled}
+use Rattle.skeleton.specs.Table.{g}
+use Rattle.skeleton.specs.Skeleton.{within}
+
+-- a table of g4 or g8, n at the place n − 1
+pub record Listed (corner : Bool) (s : List ℕ) : Type 0 where
+  pub long : length s ≡ 400
+  pub entry : (k : ℕ) → k < 400 → getD s k 0 ≡ g corner (k + 1)
+
+-- the size under which a pixel of size n is looked up: its own from 1 to 400; any other takes off what 1 does, pixels of size 0, which are not kept anyway
+abbrev pub counted : ℕ → ℕ
+counted n = cond (leb 1 n && leb n 400) n 1
+
+-- the size of pixel p, 0 if it is unlabelled; and the size that it takes off at its sides or corners
+abbrev pub ownAt : (m : List ℤ) (p : ℕ) → ℕ
+ownAt m p = cond (unlabelled (dxAt m p) (dyAt m p)) 0 (sizeAt m p)
+
+abbrev pub takenAt : (corner : Bool) (m : List ℤ) (p : ℕ) → ℕ
+takenAt corner m p = g corner (counted (sizeAt m p))
+
+-- f of the pixel (i − 1, j − 1), 0 off the sheet
+abbrev pub onSheet : (w h : ℕ) (f : ℕ → ℕ) (i j : ℕ) → ℕ
+onSheet w h f i j = cond (within w i && within h j) (f (index w (i - 1) (j - 1))) 0
+
+-- the n numbers from `start` on are f 0, f 1, ..
+pub record Part (start n : ℕ) (f : ℕ → ℕ) (s : List ℕ) : Type 0 where
+  pub entry : (i : ℕ) → i < n → getD s (start + i) 0 ≡ f i
+
+-- 0 stands at both ends of each part
+pub record Framed (w : ℕ) (s : List ℕ) : Type 0 where
+  pub long : length s ≡ 6150
+  pub left : (k : ℕ) → k ≤ 2 → getD s (2050 * k) 0 ≡ 0
+  pub right : (k : ℕ) → k ≤ 2 → getD s (2050 * k + (w + 1)) 0 ≡ 0
+
+-- every number is 0
+pub record Blank (s : List ℕ) : Type 0 where
+  pub long : length s ≡ 6150
+  pub zeros : Part 0 6150 (λ i. 0) s
+
+-- 0 at the ends, and between them the first n columns of the row that starts at `base`
+pub record Measured (m : List ℤ) (base w n : ℕ) (s : List ℕ) : Type 0 where
+  pub framed : Framed w s
+  pub sizes : Part 1 n (λ x. ownAt m (base + x)) s
+  pub sides : Part 2051 n (λ x. takenAt false m (base + x)) s
+  pub corners : Part 4101 n (λ x. takenAt true m (base + x)) s
+
+-- the band of row j − 1
+pub record Band (m : List ℤ) (w h j : ℕ) (s : List ℕ) : Type 0 where
+  pub framed : Framed w s
+  pub sizes : (y : ℕ) → j ≡ y + 1 → y < h → Part 1 w (λ x. ownAt m (index w x y)) s
+  pub sides : Part 2050 (w + 2) (λ i. onSheet w h (takenAt false m) i j) s
+  pub corners : Part 4100 (w + 2) (λ i. onSheet w h (takenAt true m) i j) s
+
+-- whether a neighbour takes off the pixel of column x and size s, by the bands of its row and of those beside it
+abbrev pub takenIn : (above row below : List ℕ) (x s : ℕ) → Bool
+takenIn above row below x s =
+    (eqb (getD below (4100 + (x + 2)) 0) s || (eqb (getD row (2050 + (x + 2)) 0) s || eqb (getD above (4100 + (x + 2)) 0) s))
+    || ((eqb (getD below (2050 + (x + 1)) 0) s || eqb (getD above (2050 + (x + 1)) 0) s)
+    || (eqb (getD below (4100 + x) 0) s || (eqb (getD row (2050 + x) 0) s || eqb (getD above (4100 + x) 0) s)))
+
+-- 1 where that pixel is kept, 0 elsewhere
+abbrev pub keptIn : (above row below : List ℕ) (x : ℕ) → ℕ
+keptIn above row below x = cond (eqb (getD row (1 + x) 0) 0 || takenIn above row below x (getD row (1 + x) 0)) 0 1
