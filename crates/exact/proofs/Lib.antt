@@ -11,4 +11,3 @@ pub mod Passes
 pub mod Runs
 pub mod Prices
 pub mod Solving
-mod Boards

@@ -29,7 +29,7 @@ flipped-copper s w h x y whole a b = rw (tabulate-at (length s) (λ p. turned (g
     go false = refl
 
 -- masks that agree on the sheet have the same pixels near
-near-same : (a b : Mask) (w h q x y : ℕ) → ((i j : ℕ) → i < w → j < h → a i j ≡ b i j) → near a w h q x y ≡ near b w h q x y
+pub near-same : (a b : Mask) (w h q x y : ℕ) → ((i j : ℕ) → i < w → j < h → a i j ≡ b i j) → near a w h q x y ≡ near b w h q x y
 near-same a b w h q x y same = go (near b w h q x y) refl
   where
     moved : (a b : Mask) → ((i j : ℕ) → i < w → j < h → a i j ≡ b i j) → Near a w h x y q → Near b w h x y q

@@ -11,4 +11,3 @@ pub mod Theorems
 pub mod Offer
 pub mod Carried
 pub mod Sowing
-mod Boards

@@ -11,7 +11,7 @@ use lib.ListN.{length, take, drop}
 use Rattle.raster.specs.Gate.{Gate, passes}
 use Rattle.raster.specs.Limits.{maxQ, maxReach}
 use Rattle.raster.specs.Loop.{some}
-use Rattle.raster.specs.Map.{dxAt, dyAt, sizeAt, unmapped}
+use Rattle.raster.specs.Map.{dxAt, dyAt, sizeAt, unmapped, hasCopper}
 use Rattle.raster.specs.Pixels.{index}
 use Rattle.raster.specs.Refusal.{firstOf}
 use Rattle.raster.specs.Sheet.{copperOf, filled}
@@ -152,6 +152,24 @@ resizeAnswer s sheet map scratch q = firstOf
     ∷ (notSheet s sheet || (notMap s map || shortScratch s scratch), 12)
     ∷ (ltb maxQ q, 15)
     ∷ [])
+
+-- ---- skeleton and rebuild: on a current exact map that has copper; neither alters the session
+
+-- `wrong` says that another lent slice is not one byte a pixel
+unfoldable pub readAnswer : Session → List ℤ → (wrong : Bool) → ℕ
+readAnswer s map wrong = firstOf
+    ((not (active s), 30)
+    ∷ (notMap s map || wrong, 12)
+    ∷ (not (s .current), 31)
+    ∷ (not (eqb (s .engine) 1), 36)
+    ∷ (not (hasCopper (s .height * s .width) map), 37)
+    ∷ [])
+
+abbrev pub skeletonAnswer : Session → List ℤ → (out : List ℕ) → ℕ
+skeletonAnswer s map out = readAnswer s map (notSheet s out)
+
+abbrev pub rebuildAnswer : Session → List ℤ → (marks out : List ℕ) → ℕ
+rebuildAnswer s map marks out = readAnswer s map (notSheet s marks || notSheet s out)
 
 -- ---- map row y: the part of the map that holds it; an empty part with nothing open, y not below H, or a map of a wrong length
 

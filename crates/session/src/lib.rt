@@ -1,13 +1,13 @@
 // The session (document 01): every call takes it by value and hands it back with an answer number, 0 if it was done. No call asks anything of its caller:
 // bad input gets its number, and a refusal changes nothing.
 ghost use mathlib.Core.Path.{_≡_};
-ghost use mathlib.Core.Bool.{_||_};
 ghost use Prim.Native.Nat.{_+_, _-_, _*_, _≤_, _<_};
 ghost use lib.ListN.{length};
 ghost use Rattle.raster.specs.Map.{unmapped};
 ghost use Rattle.raster.specs.Sheet.{bare};
 ghost use Rattle.exact.specs.Nearest.{cleared};
 ghost use Rattle.morphology.specs.Resize.{expanded, shrunk};
+ghost use Rattle.skeleton.specs.Skeleton.{skeletonOf, rebuilt};
 ghost use Rattle.raster.specs.Gate.{passes};
 ghost use Rattle.raster.specs.Pixels.{index};
 ghost use Rattle.session.specs.State.{fresh, side, cutterSound, mapSound, sheetSound, sound, active, openedAs, stale, builtBy, downAt, upOf};
@@ -34,6 +34,9 @@ ghost use Rattle.session.specs.Calls.{
   runSession,
   liftSession,
   resizeAnswer,
+  readAnswer,
+  skeletonAnswer,
+  rebuildAnswer,
   hasRow,
   rowOf,
 };
@@ -282,6 +285,28 @@ fn resize_answer(s: Session, sheet: &[u8], map: &[i16], scratch: &[i16], q: u32)
     }
     if Session::MAX_Q < q {
         return 15;
+    }
+    0
+}
+
+fn read_answer(s: Session, map: &[i16], wrong: bool) -> u32
+    ensures { λ r. ⌜ r ≡ readAnswer s (now (map .entry)) wrong ⌝ }
+{
+    if !is_active(s) {
+        return 30;
+    }
+    let n = pixels_of(s);
+    if (map.len() != 2 * n) | wrong {
+        return 12;
+    }
+    if !s.current {
+        return 31;
+    }
+    if s.engine != 1 {
+        return 36;
+    }
+    if !raster::has_copper(map, n) {
+        return 37;
     }
     0
 }
@@ -667,6 +692,49 @@ impl Session {
                 q,
             );
             self = stale_of(self);
+            return Reply {
+                answer,
+                session: self,
+            };
+        }
+        Reply {
+            answer,
+            session: self,
+        }
+    }
+
+    // Writes 1 in `out` at each pixel of the exact map that its skeleton keeps, 0 elsewhere.
+    pub fn skeleton(mut self, map: &[i16], out: &mut [u8]) -> Reply
+        ensures { λ r. ⌜ r .answer ≡ skeletonAnswer self (now (map .entry)) (now (out .entry)) ⌝ }
+        ensures { λ r. ⌜ r .session ≡ self ⌝ }
+        ensures { λ r. ⌜ now (out .exit) ≡ onDone (r .answer) (skeletonOf (now (map .entry)) (self .width) (self .height)) (now (out .entry)) ⌝ }
+    {
+        let wrong = out.len() != pixels_of(self);
+        let answer = read_answer(self, map, wrong);
+        if answer == 0 {
+            skeleton::skeleton(map, out, self.width as usize, self.height as usize);
+            return Reply {
+                answer,
+                session: self,
+            };
+        }
+        Reply {
+            answer,
+            session: self,
+        }
+    }
+
+    // Writes 1 in `out` at each pixel that the disk of a marked pixel of the exact map covers, 0 elsewhere.
+    pub fn rebuild(mut self, map: &[i16], marks: &[u8], out: &mut [u8]) -> Reply
+        ensures { λ r. ⌜ r .answer ≡ rebuildAnswer self (now (map .entry)) (now (marks .entry)) (now (out .entry)) ⌝ }
+        ensures { λ r. ⌜ r .session ≡ self ⌝ }
+        ensures { λ r. ⌜ now (out .exit) ≡ onDone (r .answer) (rebuilt (now (map .entry)) (self .width) (self .height) (now (marks .entry))) (now (out .entry)) ⌝ }
+    {
+        let n = pixels_of(self);
+        let wrong = (marks.len() != n) | (out.len() != n);
+        let answer = read_answer(self, map, wrong);
+        if answer == 0 {
+            skeleton::rebuild(map, marks, out, self.width as usize, self.height as usize);
             return Reply {
                 answer,
                 session: self,

@@ -10,4 +10,3 @@ pub mod Neighbours
 pub mod Raising
 pub mod Covering
 pub mod Passing
-mod Boards

@@ -9,7 +9,8 @@ use Rattle.session.proofs.fill.Tie as tie
 
 fill-rectangle-requires : tie.Need-fill-rectangle-requires
 fill-rectangle-requires c κs =
-    let t = c .before .before .before in fill-granted _ _ _ _ _ _ (t .before .fill-answer .ensures) (t .if1 .taken)
+    let t = c .before .before .before in
+    let g = fill-granted _ _ _ _ _ _ (t .before .fill-answer .ensures) (t .if1 .taken) in (g .held, (g .across, g .down))
 
 returns : tie.Need-returns
 returns c =

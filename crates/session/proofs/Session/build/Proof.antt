@@ -10,7 +10,7 @@ use borrow.Author.Tests.{eq-eqb, ne-eqb, ltb-false}
 use Rattle.raster.specs.Vector.{mark}
 use Rattle.scan.specs.Scan.{State}
 use Rattle.session.specs.Calls.{scanOf, buildAnswer}
-use Rattle.session.proofs.Granted.{build-granted, before-35}
+use Rattle.session.proofs.Granted.{active-limits, build-granted, before-35}
 use Rattle.session.proofs.Session.build.Statement.{statement}
 use Rattle.session.proofs.Session.build.Tie as tie
 
@@ -26,8 +26,9 @@ exact-requires c κs =
     let i = c .before .before in
     let l = i .before .before .before in
     let g = build-granted _ _ _ _ _ (l .before .build-refusal .ensures) (l .if1 .left) in
-    let short = rw (eq-eqb _ 1 (i .if2 .taken)) at (g .1 .1 .1) in
-    ((g .0 .wide, g .0 .high), (g .1 .0, (g .1 .1 .0, ltb-false _ _ short)))
+    let limits = active-limits (l .before .before .before .before .before .args .self) (g .open-sheet) in
+    let spare = rw (eq-eqb _ 1 (i .if2 .taken)) at (g .spare) in
+    ((limits .wide, limits .high), (g .held, (g .mapped, ltb-false _ _ spare)))
 
 returns-2 : tie.Need-returns-2
 unfolding buildAnswer
@@ -42,7 +43,7 @@ scan-requires : tie.Need-scan-requires
 scan-requires c κs =
     let l = c .before .before .before .before in
     let g = build-granted _ _ _ _ _ (l .before .build-refusal .ensures) (l .if1 .left) in
-    (g .0 .some, (g .1 .0, g .1 .1 .0))
+    (active-limits (l .before .before .before .before .before .args .self) (g .open-sheet) .some, (g .held, g .mapped))
 
 -- what the scan returned
 flag : (c : tie.After-scan) → let a = c .before .before .before .before .before .before .before .before .before .before .args in

@@ -1,6 +1,6 @@
 -- `session::Session::place` meets its contract: the answer is place_refusal's, or on 0, which grants what the gate requires, the gate's.
 -- Assumes nothing.
-use mathlib.Core.Path.{refl, sym, _∙_}
+use mathlib.Core.Path.{refl}
 use borrow.Author.Needs.{needs}
 use borrow.Author.Tests.{eq-eqb, ne-eqb}
 use Rattle.session.specs.Calls.{placeAnswer}
@@ -13,7 +13,8 @@ unfolding placeAnswer
 returns c = let r = c .before .place-refusal in rw (← r .ensures, ne-eqb (r .result) 0 (c .if1 .taken)) (refl, refl)
 
 passes-at-requires : tie.Need-passes-at-requires
-passes-at-requires c κs = place-granted _ _ _ _ _ (c .before .place-refusal .ensures) (c .if1 .left) .1
+passes-at-requires c κs =
+    let g = place-granted _ _ _ _ _ (c .before .place-refusal .ensures) (c .if1 .left) in (g .held, (g .across, g .down))
 
 returns-2 : tie.Need-returns-2
 unfolding placeAnswer

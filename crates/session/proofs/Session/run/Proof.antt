@@ -13,7 +13,7 @@ unfolding runAnswer
 returns c = let r = c .before .run-refusal in rw (← r .ensures, ne-eqb (r .result) 0 (c .if1 .taken)) (refl, refl)
 
 is-blocked-requires : tie.Need-is-blocked-requires
-is-blocked-requires c κs = run-granted _ _ _ _ (c .before .run-refusal .ensures) (c .if1 .left)
+is-blocked-requires c κs = run-granted _ _ _ _ (c .before .run-refusal .ensures) (c .if1 .left) .on
 
 returns-2 : tie.Need-returns-2
 unfolding runAnswer
@@ -26,7 +26,7 @@ returns-2 c =
 run-to-requires : tie.Need-run-to-requires
 run-to-requires c κs =
     let l = c .before .before in
-    let o = run-granted _ _ _ _ (l .before .run-refusal .ensures) (l .if1 .left) in (o .known, o .end)
+    let o = run-granted _ _ _ _ (l .before .run-refusal .ensures) (l .if1 .left) .on in (o .known, o .end)
 
 returns-3 : tie.Need-returns-3
 unfolding runAnswer

@@ -3,14 +3,14 @@
 use mathlib.Core.Path.{refl}
 use borrow.Author.Needs.{needs}
 use borrow.Author.Tests.{eq-eqb, ne-eqb}
-use Rattle.session.proofs.Granted.{resize-granted}
+use Rattle.session.proofs.Granted.{resize-granted, resize-requires}
 use Rattle.session.proofs.Session.shrink.Statement.{statement}
 use Rattle.session.proofs.Session.shrink.Tie as tie
 
 shrink-requires : tie.Need-shrink-requires
 shrink-requires c κs =
     let t = c .before .before .before .before .before in
-    resize-granted _ _ _ _ _ (t .before .resize-answer .ensures) (t .if1 .taken)
+    resize-requires (resize-granted _ _ _ _ _ (t .before .resize-answer .ensures) (t .if1 .taken))
 
 returns : tie.Need-returns
 returns c =

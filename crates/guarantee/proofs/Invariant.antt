@@ -1,0 +1,88 @@
+-- What holds between two calls of a list: session and sheet agree with the board, the session is sound, a current map is its engine's map of the sheet, and
+-- a lowered cutter stands free of copper. And what a gate says then.
+-- Assumes nothing.
+use mathlib.Core.Path.{_≡_, sym, subst, _∙_}
+use mathlib.Core.Bool.{true, false, not}
+use Prim.Native.Nat.{ℕ, _*_, _<_, _≤_}
+use native.Mathlib.Omega.{arith}
+use lib.Dec.{eqb}
+use lib.ListN.{length}
+use borrow.Author.Tests.{ne-eqb}
+use Rattle.raster.specs.Distance.{apart, Copper, Clear}
+use Rattle.raster.specs.Pixels.{index}
+use Rattle.raster.specs.Sheet.{copperOf}
+use Rattle.session.specs.declared.Session.{Session}
+use Rattle.session.specs.State.{sound, active}
+use Rattle.session.specs.Calls.{mapOf, passesAt}
+use Rattle.session.proofs.Granted.{Limited, active-limits}
+use Rattle.guarantee.specs.Board.{Board}
+use Rattle.guarantee.specs.World.{World}
+use Rattle.guarantee.specs.Claims.{Above, within, Close, Agree, Free}
+use Rattle.guarantee.proofs.Gates.{gate-clear, gate-close, in-fraction}
+use Rattle.guarantee.proofs.Sound.{known-engine}
+
+pub record Built (w : World) : Type 0 where
+  pub whole : length (w .sheet) ≡ w .session .height * w .session .width
+  pub map-is : w .map ≡ mapOf (w .session) (w .sheet) (w .session .engine)
+
+pub record Inv (b : Board) (w : World) : Type 0 where
+  pub agree : Agree b w
+  pub fine : sound (w .session) ≡ true
+  pub built : w .session .current ≡ true → Built w
+  pub stands : w .session .lowered ≡ true → Free w (w .session .x) (w .session .y)
+
+-- an open sheet has a side other than 0
+pub opens : (s : Session) → active s ≡ true → true ≡ not (eqb (s .width) 0)
+opens s e = let l = active-limits s e in rw (ne-eqb (s .width) 0 (omega (arith, l .some)))
+
+module _ {b : Board} {w : World} (inv : Inv b w) where
+  -- the board's copper is the sheet's
+  on-sheet : {i j : ℕ} → Copper (b .copper) (b .width) (b .height) i j → Copper (copperOf (w .sheet) (w .session .width)) (w .session .width) (w .session .height) i j
+  on-sheet {i} {j} c =
+      let a = inv .agree in
+      let x : i < w .session .width = omega (arith, c .across, a .width) in
+      let y : j < w .session .height = omega (arith, c .down, a .height) in
+      record { across = x; down = y; metal = a .copper i j x y ∙ c .metal }
+
+  on-board : {i j : ℕ} → Copper (copperOf (w .sheet) (w .session .width)) (w .session .width) (w .session .height) i j → Copper (b .copper) (b .width) (b .height) i j
+  on-board {i} {j} c =
+      let a = inv .agree in
+      record { across = omega (arith, c .across, a .width); down = omega (arith, c .down, a .height); metal = sym (a .copper i j (c .across) (c .down)) ∙ c .metal }
+
+  pub above : (q x y : ℕ) → Clear (copperOf (w .sheet) (w .session .width)) (w .session .width) (w .session .height) x y q → Above b q x y
+  above q x y clear i j c = clear i j (on-sheet c)
+
+  -- ---- the gate at a pixel of a current map
+
+  module _ (open-sheet : active (w .session) ≡ true) (current : w .session .current ≡ true)
+      (x y q : ℕ) (across : x < w .session .width) (down : y < w .session .height) where
+    limits : Limited (w .session)
+    limits = active-limits (w .session) open-sheet
+
+    engine : (1 ≤ w .session .engine) × (w .session .engine ≤ 3)
+    engine = known-engine (w .session) (inv .fine) current
+
+    -- it passes: all copper of the sheet is above q
+    pub passed-clear : passesAt (w .session .engine) (w .map) (index (w .session .width) x y) q ≡ true
+        → Clear (copperOf (w .sheet) (w .session .width)) (w .session .width) (w .session .height) x y q
+    passed-clear p =
+        let m = inv .built current in
+        gate-clear (w .session) (limits .wide) (limits .high) (w .sheet) (m .whole) x y across down (w .session .engine) (engine .0) (engine .1) q
+        (rw (m .map-is) at p)
+
+    -- it fails: some copper of the board is within the engine's fraction of q
+    pub failed-close : passesAt (w .session .engine) (w .map) (index (w .session .width) x y) q ≡ false → Close b q x y
+    failed-close p =
+        let m = inv .built current in
+        let n =
+        gate-close (w .session) (limits .wide) (limits .high) (w .sheet) (m .whole) x y across down (w .session .engine) (engine .0) (engine .1) q
+        (rw (m .map-is) at p)
+        in
+        record {
+          column = n .column;
+          row = n .row;
+          copper = on-board (n .copper);
+          fraction =
+              subst (λ (e : ℕ). within e (apart x y (n .column) (n .row)) q ≡ true) (inv .agree .engine)
+              (in-fraction (w .session .engine) (apart x y (n .column) (n .row)) q (engine .0) (engine .1) (n .within));
+        }

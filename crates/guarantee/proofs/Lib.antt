@@ -1,0 +1,9 @@
+-- `Theorems` is the guarantee; what stands above it leads up to it.
+pub mod Gates
+pub mod Answers
+pub mod Sound
+pub mod Copper
+pub mod Invariant
+pub mod Steps
+pub mod Theorems
+pub mod Table

@@ -1,0 +1,31 @@
+-- M1 to M9 hold, computed from the definitions.
+-- Assumes nothing.
+use mathlib.Core.Path.{refl}
+use Rattle.raster.specs.Distance.{gap, apart}
+use Rattle.raster.specs.Gate.{passes}
+use Rattle.raster.specs.Loop.{ascend, descend, some}
+use Rattle.raster.specs.Map.{put, vectors}
+use Rattle.raster.specs.Pixels.{tabulate, pixels}
+use Rattle.raster.specs.Refusal.{firstOf}
+use Rattle.raster.specs.Sheet.{copperOf}
+use Rattle.raster.specs.Vector.{size, replaces}
+use Rattle.scan.specs.Candidate.{offer, overs}
+use Rattle.scan.specs.Scan.{seeds, rightward, leftward, fromThree, fromRow, scanned}
+use Rattle.exact.specs.Nearest.{nearest, exactMap}
+use Rattle.skeleton.specs.Table.{least, g}
+use Rattle.skeleton.specs.Skeleton.{takenBy, removed, skeletonOf, covered, rebuilt}
+use Rattle.radius.specs.Radius.{measurable, radiusAnswer, radiusQ}
+use Rattle.session.specs.Calls.{passesAt}
+use Rattle.guarantee.specs.Table.{four, three, ends, Marked, m1, m2, m3, m4, m5, m6, m7, m8, m9, Says}
+
+pub boards : (m : Marked) → Says m
+unfolding four three ends exactMap vectors tabulate pixels nearest ascend descend some apart gap size copperOf scanned fromRow fromThree rightward leftward seeds offer overs replaces put passesAt passes g least skeletonOf removed takenBy rebuilt covered radiusQ radiusAnswer measurable firstOf
+boards m1 = (refl, (refl, (refl, (refl, refl))))
+boards m2 = (refl, refl)
+boards m3 = (refl, refl)
+boards m4 = (refl, refl)
+boards m5 = (refl, (refl, refl))
+boards m6 = (refl, refl)
+boards m7 = (refl, refl)
+boards m8 = (refl, (refl, (refl, refl)))
+boards m9 = (refl, refl)

@@ -1,0 +1,80 @@
+-- Demand 3: the theorem over all lists of calls, by induction over the list with the invariant of `Invariant`; and what it says in the workshop.
+-- Assumes nothing.
+use mathlib.Core.Path.{refl, sym}
+use mathlib.Core.Bool.{true≢false}
+use mathlib.Core.List.{List, [], _∷_}
+use Prim.Native.Nat.{ℕ}
+use native.Mathlib.Omega.{arith}
+use lib.IntN.{ℤ}
+use Rattle.session.specs.State.{fresh, cutterSound, mapSound, sheetSound, sound}
+use Rattle.session.specs.Calls.{runAnswer}
+use Rattle.guarantee.specs.Board.{Call, opening, paint, erase, build, place, run, lift, expand, shrink, skeleton, rebuild, aside, Board, blank}
+use Rattle.guarantee.specs.World.{World, world}
+use Rattle.guarantee.specs.Claims.{Holds, Guarantee, leftBy, Workshop}
+use Rattle.guarantee.proofs.Invariant.{Inv}
+use Rattle.guarantee.proofs.Steps.{
+  Step,
+  open-step,
+  paint-step,
+  erase-step,
+  build-step,
+  place-step,
+  run-step,
+  run-free,
+  lift-step,
+  expand-step,
+  shrink-step,
+  skeleton-step,
+  rebuild-step,
+  aside-step,
+}
+
+step : (c : Call) {b : Board} {w : World} → Inv b w → Step c b w
+step (opening x y o) inv = open-step inv x y o
+step (paint x y c r) inv = paint-step inv x y c r
+step (erase x y c r) inv = erase-step inv x y c r
+step (build e s) inv = build-step inv e s
+step (place x y q) inv = place-step inv x y q
+step (run d n) inv = run-step inv d n
+step lift inv = lift-step inv
+step (expand q s) inv = expand-step inv q s
+step (shrink q s) inv = shrink-step inv q s
+step (skeleton o) inv = skeleton-step inv o
+step (rebuild m o) inv = rebuild-step inv m o
+step aside inv = aside-step inv
+
+-- at the start
+start : (sheet : List ℕ) (map : List ℤ) → Inv blank (world fresh sheet map)
+unfolding sound sheetSound mapSound cutterSound
+start sheet map = record {
+  agree = record { width = refl; height = refl; engine = refl; cutter = refl; opened = refl; current = refl; copper = λ i j k l. absurd (omega arith) };
+  fine = refl;
+  built = λ e. absurd (true≢false (sym e));
+  stands = λ e. absurd (true≢false (sym e));
+}
+
+holds : (cs : List Call) {b : Board} {w : World} → Inv b w → Holds cs b w
+holds [] inv = tt
+holds (c ∷ cs) inv = let s = step c inv in (s .claim, (s .next .agree, holds cs (s .next)))
+
+-- whatever list of calls: at every call the claim holds, and after it session and sheet agree with the board
+pub guarantee : Guarantee
+guarantee cs sheet map = holds cs (start sheet map)
+
+-- ---- the workshop's words
+
+-- the board that a list leaves
+record Left (w : World) : Type 0 where
+  board : Board
+  inv : Inv board w
+
+left : (cs : List Call) {b : Board} {w : World} → Inv b w → Left (leftBy cs w)
+left [] {b} inv = record { board = b; inv = inv }
+left (c ∷ cs) inv = left cs (step c inv .next)
+
+-- whatever list of calls: no lowered cutter stands on or passes a pixel within q of copper
+pub workshop : Workshop
+unfolding runAnswer
+workshop cs sheet map lowered =
+    let l = left cs (start sheet map) in
+    (l .inv .stands lowered, λ d n done. run-free (l .inv) d n done)

@@ -1,0 +1,4 @@
+pub mod Board
+pub mod World
+pub mod Claims
+pub mod Table

@@ -1,0 +1,43 @@
+-- `session::Session::skeleton` meets its contract: the answer is read_answer's, and on 0, which grants what the skeleton requires, that is written.
+-- Assumes nothing.
+use mathlib.Core.Path.{_≡_, refl}
+use borrow.Author.Needs.{needs}
+use borrow.Author.Tests.{eq-eqb, ne-eqb, eqb-true, not-false}
+use Rattle.session.specs.Calls.{notSheet, skeletonAnswer}
+use Rattle.session.proofs.Granted.{active-limits, read-granted}
+use Rattle.session.proofs.Session.skeleton.Statement.{statement}
+use Rattle.session.proofs.Session.skeleton.Tie as tie
+
+answer-is : (c : tie.After-read-answer) → let a = c .before .before .before .args in
+    c .read-answer .result ≡ skeletonAnswer (a .self) (a .map .now) (a .out .now)
+answer-is c = rw (c .before .pixels-of .ensures) at (c .read-answer .ensures)
+
+skeleton-requires : tie.Need-skeleton-requires
+skeleton-requires c κs =
+    let t = c .before .before .before in
+    let a = t .before .before .before .before .args in
+    let g = read-granted (a .self) (a .map .now) (notSheet (a .self) (a .out .now)) (answer-is (t .before)) (t .if1 .taken) in
+    let limits = active-limits (a .self) (g .open-sheet) in
+    ((limits .wide, limits .high), (g .held, eqb-true _ _ (not-false _ (g .right))))
+
+returns : tie.Need-returns
+returns c =
+    let k = c .before .before in
+    let t = k .before .before .before .before in
+    rw (eq-eqb _ 0 (t .if1 .taken)) (answer-is (t .before), (refl, k .skeleton .ensures))
+
+returns-2 : tie.Need-returns-2
+returns-2 c = rw (ne-eqb _ 0 (c .if1 .left)) (answer-is (c .before), (refl, refl))
+
+pub skeleton-spec : {M : Type 1} → statement M
+skeleton-spec =
+    tie.close
+    (tie.spec
+    (λ c κs. search needs)
+    (λ c κs. search needs)
+    (λ c. search needs)
+    (λ c. search needs)
+    skeleton-requires
+    (λ c. search needs)
+    returns
+    returns-2)
