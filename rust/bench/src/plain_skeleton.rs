@@ -1,12 +1,11 @@
-//! Skeleton and rebuild in plain safe Rust, rebuild by the library's algorithm; the skeleton looks in the tables at each neighbour, up to the
-//! first that takes the pixel off.
+//! Skeleton and rebuild in plain safe Rust by the library's algorithms.
 
 use crate::plain_exact::{envelope, Entry, Pixel, SIDE, UNLABELLED};
 
 /// The size of an unlabelled pixel, above all others.
 const NONE: u32 = 1 << 31;
 
-/// g4 and g8 for n up to 400. At 0 stands what no pixel has.
+/// g4 and g8 for n up to 400. At 0 stands 0: a pixel of size 0 takes nothing off, since none of size 0 is kept.
 static G4: [u32; 401] = table(false);
 static G8: [u32; 401] = table(true);
 
@@ -32,13 +31,21 @@ const fn table(corner: bool) -> [u32; 401] {
         }
         n -= 1;
     }
-    least[0] = u32::MAX;
+    least[0] = 0;
     least
 }
 
 fn size([dx, dy]: Pixel) -> u32 {
     let (dx, dy) = (i32::from(dx), i32::from(dy));
     (dx * dx) as u32 + (dy * dy) as u32
+}
+
+/// A row of the map: its pixels' sizes, 0 where unlabelled, and the sizes that they take off at their sides and corners. A 0 stands for off the
+/// sheet at either end.
+struct Band {
+    own: Vec<u32>,
+    side: Vec<u32>,
+    corner: Vec<u32>,
 }
 
 /// Writes 1 at each pixel that is kept, 0 elsewhere.
@@ -48,36 +55,48 @@ pub fn skeleton(map: &[i16], out: &mut [u8], w: usize, h: usize) {
         return;
     }
     let (map, _) = map.as_chunks();
-    // the sizes of the rows above and below and of the row itself, with a 0 for off the sheet at either end
-    let mut sizes = [(); 3].map(|()| vec![0; w + 2]);
+    let zeros = || vec![0; w + 2];
+    // the rows above and below and the row itself
+    let mut bands = [(); 3].map(|()| Band { own: zeros(), side: zeros(), corner: zeros() });
     let mut rows = map.chunks(w);
-    measure(rows.next(), &mut sizes[2]);
+    measure(rows.next(), &mut bands[2]);
     for out in out.chunks_mut(w) {
-        sizes.rotate_left(1);
-        measure(rows.next(), &mut sizes[2]);
-        keep(&sizes, out);
+        bands.rotate_left(1);
+        measure(rows.next(), &mut bands[2]);
+        keep(&bands, out);
     }
 }
 
-/// The sizes of a row, or 0 if there is none.
-fn measure(row: Option<&[Pixel]>, sizes: &mut [u32]) {
-    match row {
-        Some(row) => sizes[1..].iter_mut().zip(row).for_each(|(of, &pixel)| *of = size(pixel)),
-        None => sizes.fill(0),
+/// The band of a row, or what stands off the sheet if there is none.
+fn measure(row: Option<&[Pixel]>, band: &mut Band) {
+    let Some(row) = row else {
+        band.side.fill(0);
+        band.corner.fill(0);
+        return;
+    };
+    let last = row.len() + 1;
+    let (own, side, corner) = (&mut band.own[1..last], &mut band.side[1..last], &mut band.corner[1..last]);
+    for (x, &pixel) in row.iter().enumerate() {
+        let n = size(pixel);
+        let counted = if n <= 400 { n as usize } else { 0 };
+        own[x] = if n == NONE { 0 } else { n };
+        side[x] = G4[counted];
+        corner[x] = G8[counted];
     }
 }
 
 /// Writes which pixels of a row are kept.
-fn keep([above, row, below]: &[Vec<u32>; 3], out: &mut [u8]) {
-    let w = out.len();
-    let (above, row, below) = (&above[..w + 2], &row[..w + 2], &below[..w + 2]);
+fn keep([above, row, below]: &[Band; 3], out: &mut [u8]) {
+    let all = out.len() + 2;
+    let (above_side, above_corner) = (&above.side[..all], &above.corner[..all]);
+    let (own, side) = (&row.own[..all], &row.side[..all]);
+    let (below_side, below_corner) = (&below.side[..all], &below.corner[..all]);
     for (x, byte) in out.iter_mut().enumerate() {
-        let own = row[x + 1];
-        let side = |n: u32| G4.get(n as usize) == Some(&own);
-        let corner = |n: u32| G8.get(n as usize) == Some(&own);
-        let sides = side(above[x + 1]) || side(row[x]) || side(row[x + 2]) || side(below[x + 1]);
-        let covered = sides || corner(above[x]) || corner(above[x + 2]) || corner(below[x]) || corner(below[x + 2]);
-        *byte = u8::from(own != 0 && own != NONE && !covered);
+        let size = own[x + 1];
+        let sides = (above_side[x + 1] == size) | (side[x] == size) | (side[x + 2] == size) | (below_side[x + 1] == size);
+        let above = (above_corner[x] == size) | (above_corner[x + 2] == size);
+        let below = (below_corner[x] == size) | (below_corner[x + 2] == size);
+        *byte = u8::from((size != 0) & !(sides | above | below));
     }
 }
 
