@@ -1,7 +1,10 @@
 //! Times the library beside plain Rust and prints a table. The number of rounds may be given, and then the call that is to be timed alone.
+//! With `--peers` the exact map is timed beside other libraries instead.
 //!
 //! A round goes once through all boards and runs each contender on each, so that a slow while of the machine hits all alike. The shortest
 //! time counts.
+
+mod peers;
 
 use bench::{fused, plain, plain_exact, plain_resize, plain_skeleton};
 use model::boards::{self, Board};
@@ -9,7 +12,7 @@ use model::random::Random;
 use std::time::{Duration, Instant};
 
 const SIDES: [usize; 3] = [512, 1_024, 2_048];
-const BOARDS: [&str; 6] = ["one pixel", "1 % random", "50 % random", "tracks", "diagonal", "full"];
+const BOARDS: [&str; 7] = ["one pixel", "3 pixels", "1 % random", "50 % random", "tracks", "diagonal", "full"];
 
 /// The slices of a contender, in which it may write anything. Before each call the sheet is the board's.
 struct Slices<'a> {
@@ -25,9 +28,10 @@ struct Slices<'a> {
 type Call = fn(&mut Slices);
 
 /// What is timed: a call of the library, the same in plain Rust, and a tuned variant of that if there is one. What they need besides the
-/// sheet is made ready before, off the clock.
+/// sheet is made ready before, off the clock. `lent` is how many bytes a pixel the call is lent.
 struct What {
     name: &'static str,
+    lent: usize,
     ready: Call,
     library: Call,
     plain: Call,
@@ -51,6 +55,7 @@ fn skeleton_of(on: &mut Slices) {
 const WHATS: [What; 7] = [
     What {
         name: "exact",
+        lent: 7,
         ready: |_| {},
         library: |on| abi::exact(on.sheet, on.map, on.scratch, on.w, on.h),
         plain: |on| plain_exact::exact(on.sheet, on.map, on.scratch, on.w, on.h),
@@ -58,6 +63,7 @@ const WHATS: [What; 7] = [
     },
     What {
         name: "8SED",
+        lent: 5,
         ready: |_| {},
         library: |on| assert!(!abi::scan(on.sheet, on.map, on.w, on.h, true)),
         plain: |on| assert!(!plain::scan(on.sheet, on.map, on.w, on.h, true)),
@@ -65,6 +71,7 @@ const WHATS: [What; 7] = [
     },
     What {
         name: "4SED",
+        lent: 5,
         ready: |_| {},
         library: |on| assert!(!abi::scan(on.sheet, on.map, on.w, on.h, false)),
         plain: |on| assert!(!plain::scan(on.sheet, on.map, on.w, on.h, false)),
@@ -72,6 +79,7 @@ const WHATS: [What; 7] = [
     },
     What {
         name: "expand",
+        lent: 7,
         ready: |_| {},
         library: |on| abi::expand(on.sheet, on.map, on.scratch, on.w, on.h, Q),
         plain: |on| plain_resize::expand(on.sheet, on.map, on.scratch, on.w, on.h, Q),
@@ -79,6 +87,7 @@ const WHATS: [What; 7] = [
     },
     What {
         name: "shrink",
+        lent: 7,
         ready: |_| {},
         library: |on| abi::shrink(on.sheet, on.map, on.scratch, on.w, on.h, Q),
         plain: |on| plain_resize::shrink(on.sheet, on.map, on.scratch, on.w, on.h, Q),
@@ -86,6 +95,7 @@ const WHATS: [What; 7] = [
     },
     What {
         name: "skeleton",
+        lent: 5,
         ready: map_of,
         library: |on| abi::skeleton(on.map, on.out, on.w, on.h),
         plain: |on| plain_skeleton::skeleton(on.map, on.out, on.w, on.h),
@@ -93,6 +103,7 @@ const WHATS: [What; 7] = [
     },
     What {
         name: "rebuild",
+        lent: 6,
         ready: skeleton_of,
         library: |on| abi::rebuild(on.map, on.marks, on.out, on.w, on.h),
         plain: |on| plain_skeleton::rebuild(on.map, on.marks, on.out, on.w, on.h),
@@ -134,6 +145,7 @@ impl Memory {
 /// A line of the table: a call on a board, and the shortest time of each contender.
 struct Line {
     what: &'static str,
+    lent: usize,
     name: &'static str,
     board: Board,
     ready: Call,
@@ -145,7 +157,7 @@ impl Line {
     fn new(what: &What, name: &'static str, side: usize) -> Self {
         let calls: Vec<Call> = [Some(what.library), Some(what.plain), what.fused].into_iter().flatten().collect();
         let best = vec![Duration::MAX; calls.len()];
-        Line { what: what.name, name, board: board(name, side), ready: what.ready, calls, best }
+        Line { what: what.name, lent: what.lent, name, board: board(name, side), ready: what.ready, calls, best }
     }
 
     /// Runs each contender once, another first in each turn. They must write the same.
@@ -174,6 +186,7 @@ fn board(name: &str, side: usize) -> Board {
     let mut random = Random::new(31);
     match name {
         "one pixel" => boards::one_pixel(side, side),
+        "3 pixels" => Board::with(side, side, &[(side / 5, side / 3), (side / 2, side / 7), (side - 9, side - 2)]),
         "1 % random" => boards::random(side, side, 10, &mut random),
         "50 % random" => boards::random(side, side, 500, &mut random),
         "tracks" => boards::tracks(side, side, &mut random),
@@ -188,10 +201,15 @@ fn cell(number: Option<f64>) -> String {
 }
 
 fn main() {
-    let rounds = std::env::args().nth(1).map_or(10, |rounds| rounds.parse().expect("the number of rounds"));
-    let alone = std::env::args().nth(2);
+    let (options, words): (Vec<String>, Vec<String>) = std::env::args().skip(1).partition(|word| word.starts_with("--"));
+    let rounds = words.first().map_or(10, |rounds| rounds.parse().expect("the number of rounds"));
+    if options.iter().any(|option| option == "--peers") {
+        let boards = BOARDS.iter().flat_map(|&name| SIDES.map(|side| (name, board(name, side))));
+        return peers::compare(rounds, boards);
+    }
+    let alone = words.get(1);
     let mut lines = Vec::new();
-    for what in WHATS.iter().filter(|what| alone.as_deref().is_none_or(|alone| alone == what.name)) {
+    for what in WHATS.iter().filter(|what| alone.is_none_or(|alone| alone == what.name)) {
         for name in BOARDS {
             lines.extend(SIDES.map(|side| Line::new(what, name, side)));
         }
@@ -208,8 +226,8 @@ fn main() {
     println!("ns a pixel, the shortest of {rounds} runs of each (twice as many at 1,024, four times at 512)");
     println!("each ratio is the library's time to the one before it; plain is the same call in plain Rust, fused a tuned variant\n");
     println!(
-        "{:8}  {:11}  {:>4}  {:>7}  {:>5}  {:>5}  {:>5}  {:>5}  library 2,048 / 512",
-        "call", "board", "side", "library", "plain", "ratio", "fused", "ratio"
+        "{:8}  {:11}  {:>4}  {:>7}  {:>5}  {:>5}  {:>5}  {:>5}  {:>7}  library 2,048 / 512",
+        "call", "board", "side", "library", "plain", "ratio", "fused", "ratio", "lent"
     );
     for sides in lines.chunks(SIDES.len()) {
         for line in sides {
@@ -219,6 +237,7 @@ fn main() {
             for number in [plain, over(plain), fused, over(fused)] {
                 print!("  {:>5}", cell(number));
             }
+            print!("  {:>4.1} MB", (line.lent * line.board.sheet.len()) as f64 / 1e6);
             if line.board.w == 2_048 {
                 print!("  {}", cell(over(sides[0].nanoseconds(0))));
             }
