@@ -1,0 +1,84 @@
+-- `job::split` meets its contract. The invariant: the bytes split exactly if those from `at` on do, and have as many records more than those as were counted.
+-- Assumes nothing.
+use mathlib.Core.Path.{_≡_, refl, sym, ap, _∙_}
+use mathlib.Core.Bool.{_&&_}
+use Prim.Native.Nat.{_+_, _-_, _≤_}
+use native.Mathlib.Omega.{arith}
+use lib.ListN.{length, drop, length-drop}
+use borrow.Author.Needs.{needs}
+use borrow.Author.Tests.{le-leb, lt-leb}
+use Rattle.job.specs.Format.{splits, ordersIn, isJob, ordersOf, splitOf}
+use Rattle.job.specs.FormatLaws.{size-fits, splits-turn, orders-turn, splits-not, splits-end, orders-end}
+use Rattle.job.proofs.split.Statement.{statement}
+use Rattle.job.proofs.split.Tie as tie
+
+abbrev Inv-loop : tie.InvT-loop
+Inv-loop job at₀ records₀ at records =
+    (splits (length job) job ≡ splits (length job - records) (drop at job))
+    × ((length (ordersIn (length job) job) ≡ records + length (ordersIn (length job - records) (drop at job)))
+    × ((records ≤ at) × (at ≤ length job)))
+
+abbrev μ-loop : tie.MeasureT-loop
+μ-loop job at₀ records₀ at records = length job - at
+
+returns : tie.Need-returns Inv-loop μ-loop
+unfolding splitOf isJob
+returns c = let a = c .before .before .args in rw (lt-leb (length (a .job .now)) 65536 (c .if1 .taken))
+
+loop-holds : tie.Need-loop-holds Inv-loop μ-loop
+loop-holds c =
+    let j = c .before .before .args .job .now in
+    let z : length j - 0 ≡ length j = omega arith in
+    rw z (refl, (omega arith, (omega arith, omega arith)))
+
+-- the record ends within the bytes
+fits : (c : tie.After-size-at Inv-loop μ-loop) → let l = c .before .before in
+    l .loop .at + c .size-at .result ≤ length (l .before .before .before .args .job .now)
+fits c =
+    let l = c .before .before in
+    let j = l .before .before .before .args .job .now in
+    omega (arith, size-fits (drop (l .loop .at) j), length-drop (l .loop .at) j, c .size-at .ensures)
+
+returns-2 : tie.Need-returns-2 Inv-loop μ-loop
+unfolding splitOf isJob
+returns-2 c =
+    let l = c .before .before .before in
+    let j = l .before .before .before .args .job .now in
+    let n = splits-not j (l .loop .records) (l .loop .at) (c .before .size-at .ensures) (c .if2 .taken) (omega arith) (omega arith) in
+    rw (le-leb (length j) 65536 (omega arith), l .loop .inv .0, n)
+
+loop-again : tie.Need-loop-again Inv-loop μ-loop
+loop-again c =
+    let l = c .before .before .before in
+    let j = l .before .before .before .args .job .now in
+    let i = l .loop .records in
+    let e = c .before .size-at .ensures in
+    let o = orders-turn j i (l .loop .at) e (c .if2 .left) (omega arith) (omega arith) in
+    (l .loop .inv .0 ∙ splits-turn j i (l .loop .at) e (c .if2 .left) (omega arith) (omega arith),
+      (omega (arith, l .loop .inv .1 .0, ap length o), (omega arith, fits (c .before))))
+
+returns-3 : tie.Need-returns-3 Inv-loop μ-loop
+unfolding splitOf isJob ordersOf
+returns-3 c =
+    let l = c .before in
+    let j = l .before .before .before .args .job .now in
+    let d : length (drop (l .loop .at) j) ≡ 0 = omega (arith, length-drop (l .loop .at) j) in
+    let o = orders-end (length j - l .loop .records) (drop (l .loop .at) j) d in
+    let n : length (ordersIn (length j) j) ≡ l .loop .records = omega (arith, l .loop .inv .1 .0, ap length o) in
+    rw (le-leb (length j) 65536 (omega arith), l .loop .inv .0, splits-end (length j - l .loop .records) (drop (l .loop .at) j) d, n)
+
+pub split-spec : {M : Type 1} → statement M
+split-spec =
+    tie.close
+    (tie.spec
+    Inv-loop
+    μ-loop
+    returns
+    loop-holds
+    (λ c κs. search needs)
+    returns-2
+    (λ c. omega (arith, fits (c .before)))
+    (λ c. omega arith)
+    (λ c. omega (arith, fits (c .before)))
+    loop-again
+    returns-3)

@@ -1,0 +1,104 @@
+-- The bytes of a job file: document 01, "Job file". What a record means, what its bytes are, and how bytes split into records.
+-- Assumes nothing.
+use mathlib.Core.Bool.{Bool, true, false, cond, _&&_, _||_}
+use mathlib.Core.List.{List, [], _∷_, _++_}
+use Prim.Native.Nat.{ℕ, zero, suc, _+_, _*_, _/_, _%_}
+use lib.Dec.{eqb, leb, ltb}
+use lib.ListN.{length, getD, drop}
+use Rattle.job.specs.declared.Counted.{Counted}
+
+-- a record, with its fields in their order
+pub data Order : Type 0 where
+  opening : (w h : ℕ) → Order
+  paint : (x y cols rows : ℕ) → Order
+  erase : (x y cols rows : ℕ) → Order
+  build : (engine : ℕ) → Order
+  place : (x y q : ℕ) → Order
+  run : (direction count : ℕ) → Order
+  lift : Order
+  expand : (q : ℕ) → Order
+  shrink : (q : ℕ) → Order
+
+-- ---- reading, little-endian
+
+-- the number of 16 bits at a place, and the one of 32
+abbrev pub word : List ℕ → (place : ℕ) → ℕ
+word bytes i = getD bytes i 0 + 256 * getD bytes (i + 1) 0
+
+abbrev pub long : List ℕ → (place : ℕ) → ℕ
+long bytes i = word bytes i + 65536 * word bytes (i + 2)
+
+-- the whole length of a record of each kind; 0 for a kind that is none
+unfoldable pub sizeOf : (kind : ℕ) → ℕ
+sizeOf k =
+    cond (eqb k 2 || (eqb k 3 || eqb k 5)) 12
+    (cond (eqb k 4) 6 (cond (eqb k 7) 4 (cond (leb 1 k && leb k 9) 8 0)))
+
+-- the length of the record at the front of the bytes; 0 where the kind is none, the length not the kind's, or the tail cut
+unfoldable pub sizeHere : List ℕ → ℕ
+sizeHere bytes =
+    cond (leb 4 (length bytes))
+    (cond (eqb (word bytes 0) (sizeOf (word bytes 2)) && leb (word bytes 0) (length bytes)) (word bytes 0) 0)
+    0
+
+-- the record at the front of the bytes, by its kind
+unfoldable pub orderHere : List ℕ → Order
+orderHere b =
+    let kind = word b 2 in
+    cond (eqb kind 1) (opening (word b 4) (word b 6))
+    (cond (eqb kind 2) (paint (word b 4) (word b 6) (word b 8) (word b 10))
+    (cond (eqb kind 3) (erase (word b 4) (word b 6) (word b 8) (word b 10))
+    (cond (eqb kind 4) (build (word b 4))
+    (cond (eqb kind 5) (place (word b 4) (word b 6) (long b 8))
+    (cond (eqb kind 6) (run (word b 4) (word b 6))
+    (cond (eqb kind 7) lift (cond (eqb kind 8) (expand (long b 4)) (shrink (long b 4)))))))))
+
+-- ---- splitting
+
+-- the bytes are records one after the other, at most so many
+unfoldable pub splits : (most : ℕ) → List ℕ → Bool
+splits zero bytes = eqb (length bytes) 0
+splits (suc n) bytes =
+    cond (eqb (length bytes) 0) true
+    (cond (eqb (sizeHere bytes) 0) false (splits n (drop (sizeHere bytes) bytes)))
+
+-- those records
+unfoldable pub ordersIn : (most : ℕ) → List ℕ → List Order
+ordersIn zero bytes = []
+ordersIn (suc n) bytes = cond (eqb (length bytes) 0) [] (orderHere bytes ∷ ordersIn n (drop (sizeHere bytes) bytes))
+
+-- a job file has at most 65,536 bytes and splits; no record is shorter than a byte
+unfoldable pub isJob : List ℕ → Bool
+isJob bytes = leb (length bytes) 65536 && splits (length bytes) bytes
+
+unfoldable pub ordersOf : List ℕ → List Order
+ordersOf bytes = ordersIn (length bytes) bytes
+
+-- splitting answers the number of records and 0, or 0 records and 19
+unfoldable pub splitOf : List ℕ → Counted
+splitOf bytes = cond (isJob bytes) (record { records = length (ordersOf bytes); answer = 0 }) (record { records = 0; answer = 19 })
+
+-- ---- writing: what `encoded` and `decoded` below `FormatLaws` compare reading with
+
+abbrev pub wordBytes : ℕ → List ℕ
+wordBytes n = n % 256 ∷ n / 256 ∷ []
+
+abbrev pub longBytes : ℕ → List ℕ
+longBytes n = wordBytes (n % 65536) ++ wordBytes (n / 65536)
+
+-- the length, the kind, the fields
+unfoldable pub encode : Order → List ℕ
+encode (opening w h) = wordBytes 8 ++ wordBytes 1 ++ wordBytes w ++ wordBytes h
+encode (paint x y c r) = wordBytes 12 ++ wordBytes 2 ++ wordBytes x ++ wordBytes y ++ wordBytes c ++ wordBytes r
+encode (erase x y c r) = wordBytes 12 ++ wordBytes 3 ++ wordBytes x ++ wordBytes y ++ wordBytes c ++ wordBytes r
+encode (build e) = wordBytes 6 ++ wordBytes 4 ++ wordBytes e
+encode (place x y q) = wordBytes 12 ++ wordBytes 5 ++ wordBytes x ++ wordBytes y ++ longBytes q
+encode (run d n) = wordBytes 8 ++ wordBytes 6 ++ wordBytes d ++ wordBytes n
+encode lift = wordBytes 4 ++ wordBytes 7
+encode (expand q) = wordBytes 8 ++ wordBytes 8 ++ longBytes q
+encode (shrink q) = wordBytes 8 ++ wordBytes 9 ++ longBytes q
+
+-- one record after the other
+unfoldable pub encodeAll : List Order → List ℕ
+encodeAll [] = []
+encodeAll (o ∷ os) = encode o ++ encodeAll os
