@@ -3,14 +3,36 @@
 use mathlib.Core.Path.{_≡_, refl, sym, ap, ap₂, _∙_}
 use mathlib.Core.Bool.{Bool, true, false, cond, _&&_}
 use mathlib.Core.List.{List, [], _∷_, _++_}
-use Prim.Native.Nat.{ℕ, zero, suc, _+_, _-_, _*_, _<_, _≤_}
+use Prim.Native.Nat.{ℕ, zero, suc, _+_, _-_, _*_, _/_, _%_, _<_, _≤_}
 use native.Mathlib.Omega.{arith}
 use lib.Dec.{eqb, leb, ltb}
-use lib.ListN.{length, getD, drop, length-drop}
-use lib.Seq.{drop-drop, getD-drop}
-use borrow.Author.Tests.{ne-eqb, leb-true}
+use native.Mathlib.Nat.{div-add-mod'}
+use lib.ListN.{length, getD, drop, length-append, length-drop}
+use lib.Seq.{drop-drop, getD-drop, drop-append-seam}
+use borrow.Author.Tests.{eq-eqb, ne-eqb, leb-true, le-leb}
 use Rattle.raster.specs.Tests.{and-right, cond-ind}
-use Rattle.job.specs.Format.{Order, word, sizeOf, sizeHere, orderHere, splits, ordersIn}
+use Rattle.job.specs.Format.{
+  Order,
+  opening,
+  paint,
+  erase,
+  build,
+  place,
+  run,
+  lift,
+  expand,
+  shrink,
+  word,
+  sizeOf,
+  sizeHere,
+  orderHere,
+  splits,
+  ordersIn,
+  isJob,
+  ordersOf,
+  encode,
+  encodeAll,
+}
 
 -- two bytes beside each other, read from a part of the bytes
 pub word-drop : (bytes : List ℕ) (at i : ℕ) {low high : ℕ} → low ≡ getD bytes (at + i) 0 → high ≡ getD bytes ((at + i) + 1) 0
@@ -25,9 +47,9 @@ unfolding sizeHere
 size-fits bytes =
     cond-ind (λ (n : ℕ). n ≤ length bytes) (leb 4 (length bytes))
     (λ _.
-      cond-ind (λ (n : ℕ). n ≤ length bytes) (eqb (word bytes 0) (sizeOf (word bytes 2)) && leb (word bytes 0) (length bytes))
-      (λ e. leb-true _ _ (and-right (eqb (word bytes 0) (sizeOf (word bytes 2))) _ e))
-      (λ _. omega arith))
+    cond-ind (λ (n : ℕ). n ≤ length bytes) (eqb (word bytes 0) (sizeOf (word bytes 2)) && leb (word bytes 0) (length bytes))
+    (λ e. leb-true _ _ (and-right (eqb (word bytes 0) (sizeOf (word bytes 2))) _ e))
+    (λ _. omega arith))
     (λ _. omega arith)
 
 -- one record further on
@@ -67,3 +89,79 @@ pub orders-end : (n : ℕ) (bytes : List ℕ) → length bytes ≡ 0 → ordersI
 unfolding ordersIn
 orders-end zero bytes e = refl
 orders-end (suc n) bytes e = rw e
+
+-- ---- reading what was written
+
+halves : (n : ℕ) → n % 256 + 256 * (n / 256) ≡ n
+halves n = omega (arith, div-add-mod' n 256)
+
+whole : (n : ℕ) → n % 65536 + 65536 * (n / 65536) ≡ n
+whole n = omega (arith, div-add-mod' n 65536)
+
+size-is : (bytes : List ℕ) → 4 ≤ length bytes → word bytes 0 ≡ sizeOf (word bytes 2) → word bytes 0 ≤ length bytes → sizeHere bytes ≡ word bytes 0
+unfolding sizeHere
+size-is bytes four same fits =
+    rw (le-leb 4 (length bytes) four, eq-eqb (word bytes 0) (sizeOf (word bytes 2)) same, le-leb (word bytes 0) (length bytes) fits)
+
+-- the record at the front of bytes that start with a written record is that one
+size-written : (o : Order) (rest : List ℕ) → sizeHere (encode o ++ rest) ≡ length (encode o)
+unfolding encode sizeOf
+size-written (opening w h) rest = size-is (encode (opening w h) ++ rest) (omega arith) refl (omega arith)
+size-written (paint x y c r) rest = size-is (encode (paint x y c r) ++ rest) (omega arith) refl (omega arith)
+size-written (erase x y c r) rest = size-is (encode (erase x y c r) ++ rest) (omega arith) refl (omega arith)
+size-written (build e) rest = size-is (encode (build e) ++ rest) (omega arith) refl (omega arith)
+size-written (place x y q) rest = size-is (encode (place x y q) ++ rest) (omega arith) refl (omega arith)
+size-written (run d n) rest = size-is (encode (run d n) ++ rest) (omega arith) refl (omega arith)
+size-written lift rest = size-is (encode lift ++ rest) (omega arith) refl (omega arith)
+size-written (expand q) rest = size-is (encode (expand q) ++ rest) (omega arith) refl (omega arith)
+size-written (shrink q) rest = size-is (encode (shrink q) ++ rest) (omega arith) refl (omega arith)
+
+order-written : (o : Order) (rest : List ℕ) → orderHere (encode o ++ rest) ≡ o
+unfolding encode orderHere
+order-written (opening w h) rest = simp halves
+order-written (paint x y c r) rest = simp halves
+order-written (erase x y c r) rest = simp halves
+order-written (build e) rest = simp halves
+order-written (place x y q) rest = simp (halves, whole)
+order-written (run d n) rest = simp halves
+order-written lift rest = refl
+order-written (expand q) rest = simp (halves, whole)
+order-written (shrink q) rest = simp (halves, whole)
+
+-- no written record is shorter than four bytes
+four-bytes : (o : Order) → 4 ≤ length (encode o)
+unfolding encode
+four-bytes (opening w h) = omega arith
+four-bytes (paint x y c r) = omega arith
+four-bytes (erase x y c r) = omega arith
+four-bytes (build e) = omega arith
+four-bytes (place x y q) = omega arith
+four-bytes (run d n) = omega arith
+four-bytes lift = omega arith
+four-bytes (expand q) = omega arith
+four-bytes (shrink q) = omega arith
+
+each-a-byte : (os : List Order) → length os ≤ length (encodeAll os)
+unfolding encodeAll
+each-a-byte [] = omega arith
+each-a-byte (o ∷ os) = omega (arith, length-append (encode o) (encodeAll os), four-bytes o, each-a-byte os)
+
+read-back : (os : List Order) (n : ℕ) → length os ≤ n → (splits n (encodeAll os) ≡ true) × (ordersIn n (encodeAll os) ≡ os)
+unfolding encodeAll splits ordersIn
+read-back [] n h = (splits-end n [] refl, orders-end n [] refl)
+read-back (o ∷ os) zero h = absurd (omega arith)
+read-back (o ∷ os) (suc n) h =
+    let r = encodeAll os in
+    let b = read-back os n (omega arith) in
+    let some : eqb (length (encode o ++ r)) 0 ≡ false = ne-eqb (length (encode o ++ r)) 0 (omega (arith, length-append (encode o) r, four-bytes o)) in
+    let size : eqb (length (encode o)) 0 ≡ false = ne-eqb (length (encode o)) 0 (omega (arith, four-bytes o)) in (
+      rw (some, size-written o r, size, drop-append-seam (encode o) r) (b .0),
+      rw (some, size-written o r, order-written o r, drop-append-seam (encode o) r) (ap (λ (l : List Order). o ∷ l) (b .1)),
+    )
+
+-- the theorem: bytes that are records written one after the other, at most 65,536, split into those records
+pub encoded : (os : List Order) → length (encodeAll os) ≤ 65536 → (isJob (encodeAll os) ≡ true) × (ordersOf (encodeAll os) ≡ os)
+unfolding isJob ordersOf
+encoded os few =
+    let b = read-back os (length (encodeAll os)) (each-a-byte os) in
+    (rw (le-leb (length (encodeAll os)) 65536 few) (b .0), b .1)

@@ -20,8 +20,14 @@ returns-2 c =
     let t = c .before in
     let w = t .before .before in
     let a = w .before .before .before .args in
-    rw (le-leb 4 (length (drop (a .at) (a .job .now))) (omega (arith, length-drop (a .at) (a .job .now))),
-      ← w .word-at .ensures, ← t .before .word-at2 .ensures, ← t .size-of .ensures, length-drop (a .at) (a .job .now), c .if2 .taken)
+    rw (
+      le-leb 4 (length (drop (a .at) (a .job .now))) (omega (arith, length-drop (a .at) (a .job .now))),
+      ← w .word-at .ensures,
+      ← t .before .word-at2 .ensures,
+      ← t .size-of .ensures,
+      length-drop (a .at) (a .job .now),
+      c .if2 .taken,
+    )
 
 returns-3 : tie.Need-returns-3
 unfolding sizeHere
@@ -29,8 +35,14 @@ returns-3 c =
     let t = c .before in
     let w = t .before .before in
     let a = w .before .before .before .args in
-    rw (le-leb 4 (length (drop (a .at) (a .job .now))) (omega (arith, length-drop (a .at) (a .job .now))),
-      ← w .word-at .ensures, ← t .before .word-at2 .ensures, ← t .size-of .ensures, length-drop (a .at) (a .job .now), c .if2 .left)
+    rw (
+      le-leb 4 (length (drop (a .at) (a .job .now))) (omega (arith, length-drop (a .at) (a .job .now))),
+      ← w .word-at .ensures,
+      ← t .before .word-at2 .ensures,
+      ← t .size-of .ensures,
+      length-drop (a .at) (a .job .now),
+      c .if2 .left,
+    )
 
 pub size-at-spec : {M : Type 1} → statement M
 size-at-spec =

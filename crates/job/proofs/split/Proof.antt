@@ -53,9 +53,10 @@ loop-again c =
     let j = l .before .before .before .args .job .now in
     let i = l .loop .records in
     let e = c .before .size-at .ensures in
-    let o = orders-turn j i (l .loop .at) e (c .if2 .left) (omega arith) (omega arith) in
-    (l .loop .inv .0 ∙ splits-turn j i (l .loop .at) e (c .if2 .left) (omega arith) (omega arith),
-      (omega (arith, l .loop .inv .1 .0, ap length o), (omega arith, fits (c .before))))
+    let o = orders-turn j i (l .loop .at) e (c .if2 .left) (omega arith) (omega arith) in (
+      l .loop .inv .0 ∙ splits-turn j i (l .loop .at) e (c .if2 .left) (omega arith) (omega arith),
+      (omega (arith, l .loop .inv .1 .0, ap length o), (omega arith, fits (c .before))),
+    )
 
 returns-3 : tie.Need-returns-3 Inv-loop μ-loop
 unfolding splitOf isJob ordersOf
