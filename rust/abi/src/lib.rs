@@ -21,6 +21,8 @@
 //! assert_eq!(bare, [0, 1, 1, 1, 0]);
 //! ```
 
+pub mod session;
+
 mod ffi {
     extern "C" {
         pub fn abi_scan(sheet: *const u8, sheet_len: usize, map: *mut i16, map_len: usize, w: usize, h: usize, corners: bool) -> bool;

@@ -19,17 +19,6 @@ fn lent(board: &Board, random: &mut Random) -> Vec<[i16; 2]> {
     map
 }
 
-/// The model's map: by brute force if that is a matter of moments, otherwise the faster way.
-fn expected(board: &Board) -> Vec<[i16; 2]> {
-    let &Board { w, h, ref sheet } = board;
-    let copper = sheet.iter().filter(|&&byte| byte != 0).count();
-    if copper * w * h <= 1 << 22 {
-        exact::exact(sheet, w, h)
-    } else {
-        exact::outwards(sheet, w, h)
-    }
-}
-
 /// The library's map, which must be the expected one.
 fn compare(board: &Board, expected: &[[i16; 2]], random: &mut Random) {
     let map = lent(board, random);
@@ -40,7 +29,7 @@ fn compare(board: &Board, expected: &[[i16; 2]], random: &mut Random) {
 }
 
 fn check(board: &Board, random: &mut Random) {
-    compare(board, &expected(board), random);
+    compare(board, &exact::sooner(&board.sheet, board.w, board.h), random);
 }
 
 #[test]

@@ -27,6 +27,13 @@ pub fn outwards(sheet: &[u8], w: usize, h: usize) -> Vec<[i16; 2]> {
     map
 }
 
+/// The exact map by the one of the two that is sooner done.
+pub fn sooner(sheet: &[u8], w: usize, h: usize) -> Vec<[i16; 2]> {
+    let copper = sheet.iter().filter(|&&byte| byte != 0).count();
+    let few = copper <= 16 || copper * w * h <= 1 << 22;
+    [outwards, exact][usize::from(few)](sheet, w, h)
+}
+
 /// The nearest to y of the rows in which a column has copper, which are in order; of two the upper.
 fn nearest_row(rows: &[usize], y: usize) -> Option<usize> {
     let above = rows.partition_point(|&row| row < y);

@@ -7,6 +7,7 @@ pub mod nearest;
 pub mod random;
 pub mod resize;
 pub mod scans;
+pub mod session;
 pub mod skeleton;
 
 /// Radius and pitch in micrometres to the answer number and q, by bisection and with no division.

@@ -22,7 +22,7 @@ pub fn shrink(sheet: &[u8], w: usize, h: usize, q: u32) -> Vec<u8> {
 /// The sheet expanded by q, faster: by the exact map.
 pub fn expand_by_map(sheet: &[u8], w: usize, h: usize, q: u32) -> Vec<u8> {
     let near = |way: [i16; 2]| way != UNLABELLED && size(way) <= u64::from(q);
-    exact::outwards(sheet, w, h).into_iter().map(|way| u8::from(near(way))).collect()
+    exact::sooner(sheet, w, h).into_iter().map(|way| u8::from(near(way))).collect()
 }
 
 /// The sheet shrunk by q, faster: what is left over when its bare part is expanded by q.

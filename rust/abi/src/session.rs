@@ -1,0 +1,210 @@
+//! The session and its calls.
+//!
+//! Each call takes the session by value and hands it back with its answer number. The calls ask nothing of their caller: any numbers, slices
+//! of any length and sessions with any fields get the answer that is theirs, and none of the calls panics.
+//!
+//! ```
+//! use abi::session::{Reply, Session};
+//!
+//! let (mut sheet, mut map) = ([7; 16], [7; 32]);
+//! let mut session = Session::fresh();
+//! let mut answers = Vec::new();
+//! let mut take = |reply: Reply, session: &mut Session| {
+//!     answers.push(reply.answer);
+//!     *session = reply.session;
+//! };
+//! take(session.open(&mut sheet, 4, 4), &mut session);
+//! for (x, y) in [(3, 0), (0, 3), (2, 2)] {
+//!     take(session.paint(&mut sheet, x, y, 1, 1), &mut session);
+//! }
+//! take(session.build(&sheet, &mut map, &mut [], 3), &mut session);
+//! take(session.place(&map, 0, 0, 5), &mut session);
+//! take(session.place(&map, 0, 0, 4), &mut session);
+//! take(session.run(&map, 0, 1), &mut session);
+//! take(session.lift(), &mut session);
+//! assert_eq!(answers, [0, 0, 0, 0, 0, 34, 0, 34, 0]);
+//! assert_eq!(session.map_row(&map, 0), [3, 0, 2, 0, 1, 0, 0, 0]);
+//! ```
+
+/// What a session records. With nothing open the sides are 0, with the map not current the engine is, with the cutter up its pixel and q.
+#[repr(C)]
+#[derive(Clone, Copy, Debug, PartialEq, Eq)]
+pub struct Session {
+    /// Whether a sheet is open.
+    pub opened: bool,
+    pub width: u16,
+    pub height: u16,
+    /// Whether the map is current.
+    pub current: bool,
+    /// The engine that built the map: 1 exact, 2 8SED, 3 4SED.
+    pub engine: u16,
+    /// Whether the cutter is down.
+    pub lowered: bool,
+    pub x: u16,
+    pub y: u16,
+    pub q: u32,
+}
+
+/// What a call hands back: its answer number, 0 if it was done, and the session.
+#[repr(C)]
+#[derive(Clone, Copy, Debug, PartialEq, Eq)]
+pub struct Reply {
+    pub answer: u32,
+    pub session: Session,
+}
+
+mod ffi {
+    use super::{Reply, Session};
+
+    /// Where a part of a slice stands.
+    #[repr(C)]
+    pub struct Span {
+        pub from: usize,
+        pub len: usize,
+    }
+
+    extern "C" {
+        pub fn abi_session_fresh() -> Session;
+        pub fn abi_session_open(s: Session, sheet: *mut u8, sheet_len: usize, w: u16, h: u16) -> Reply;
+        pub fn abi_session_paint(s: Session, sheet: *mut u8, sheet_len: usize, x: u16, y: u16, cols: u16, rows: u16) -> Reply;
+        pub fn abi_session_erase(s: Session, sheet: *mut u8, sheet_len: usize, x: u16, y: u16, cols: u16, rows: u16) -> Reply;
+        pub fn abi_session_build(
+            s: Session,
+            sheet: *const u8,
+            sheet_len: usize,
+            map: *mut i16,
+            map_len: usize,
+            scratch: *mut i16,
+            scratch_len: usize,
+            engine: u16,
+        ) -> Reply;
+        pub fn abi_session_place(s: Session, map: *const i16, map_len: usize, x: u16, y: u16, q: u32) -> Reply;
+        pub fn abi_session_run(s: Session, map: *const i16, map_len: usize, direction: u16, count: u16) -> Reply;
+        pub fn abi_session_lift(s: Session) -> Reply;
+        pub fn abi_session_expand(
+            s: Session,
+            sheet: *mut u8,
+            sheet_len: usize,
+            map: *mut i16,
+            map_len: usize,
+            scratch: *mut i16,
+            scratch_len: usize,
+            q: u32,
+        ) -> Reply;
+        pub fn abi_session_shrink(
+            s: Session,
+            sheet: *mut u8,
+            sheet_len: usize,
+            map: *mut i16,
+            map_len: usize,
+            scratch: *mut i16,
+            scratch_len: usize,
+            q: u32,
+        ) -> Reply;
+        pub fn abi_session_skeleton(s: Session, map: *const i16, map_len: usize, out: *mut u8, out_len: usize) -> Reply;
+        pub fn abi_session_rebuild(
+            s: Session,
+            map: *const i16,
+            map_len: usize,
+            marks: *const u8,
+            marks_len: usize,
+            out: *mut u8,
+            out_len: usize,
+        ) -> Reply;
+        pub fn abi_session_row(s: Session, map: *const i16, map_len: usize, y: u16) -> Span;
+    }
+}
+
+impl Session {
+    /// A fresh session: nothing open, map not current, cutter up.
+    pub fn fresh() -> Self {
+        // SAFETY: the function takes nothing and is proved to return.
+        unsafe { ffi::abi_session_fresh() }
+    }
+
+    /// Opens a sheet of `w` × `h` pixels: it is cleared, the map not current, the cutter up. Refusals: 11, 12.
+    pub fn open(self, sheet: &mut [u8], w: u16, h: u16) -> Reply {
+        // SAFETY: the pointer comes with the length of the slice it is from, the sheet is lent to nobody else, and the function has no
+        // `requires`. It is proved to return and to stay within the slice.
+        unsafe { ffi::abi_session_open(self, sheet.as_mut_ptr(), sheet.len(), w, h) }
+    }
+
+    /// Paints the rectangle of `w` × `h` pixels from (x, y): 1 is written there, the map is not current, the cutter up. Refusals: 30, 12, 13.
+    pub fn paint(self, sheet: &mut [u8], x: u16, y: u16, w: u16, h: u16) -> Reply {
+        // SAFETY: as in `open`.
+        unsafe { ffi::abi_session_paint(self, sheet.as_mut_ptr(), sheet.len(), x, y, w, h) }
+    }
+
+    /// Erases a rectangle: as [`Session::paint`], but 0 is written there.
+    pub fn erase(self, sheet: &mut [u8], x: u16, y: u16, w: u16, h: u16) -> Reply {
+        // SAFETY: as in `open`.
+        unsafe { ffi::abi_session_erase(self, sheet.as_mut_ptr(), sheet.len(), x, y, w, h) }
+    }
+
+    /// Builds the map by engine 1 exact, 2 8SED or 3 4SED. It is then current, the cutter up. Only exact tests and writes scratch, and leaves
+    /// its first W × H numbers at 0. Refusals: 30, 12, 14; 35, which no sheet gives.
+    pub fn build(self, sheet: &[u8], map: &mut [i16], scratch: &mut [i16], engine: u16) -> Reply {
+        let (map, map_len) = (map.as_mut_ptr(), map.len());
+        // SAFETY: each pointer comes with the length of the slice it is from, map and scratch are lent to nobody else, and the function has
+        // no `requires`. It is proved to return and to stay within the three slices.
+        unsafe { ffi::abi_session_build(self, sheet.as_ptr(), sheet.len(), map, map_len, scratch.as_mut_ptr(), scratch.len(), engine) }
+    }
+
+    /// Places the cutter at (x, y) with q. Refusals: 30, 12, 15, 16, 31, 34.
+    pub fn place(self, map: &[i16], x: u16, y: u16, q: u32) -> Reply {
+        // SAFETY: the pointer comes with the length of the slice it is from, and the function has no `requires`. It is proved to return, to
+        // stay within the slice and to write nothing there.
+        unsafe { ffi::abi_session_place(self, map.as_ptr(), map.len(), x, y, q) }
+    }
+
+    /// Runs the lowered cutter `count` steps in one of the eight directions, clockwise from east. Refusals: 30, 12, 17, 32, 33, 34.
+    pub fn run(self, map: &[i16], direction: u16, count: u16) -> Reply {
+        // SAFETY: as in `place`.
+        unsafe { ffi::abi_session_run(self, map.as_ptr(), map.len(), direction, count) }
+    }
+
+    /// Lifts the cutter, which is done also if it was up. A session that no call could hand back becomes a fresh one.
+    pub fn lift(self) -> Reply {
+        // SAFETY: the function takes plain numbers, has no `requires` and is proved to return.
+        unsafe { ffi::abi_session_lift(self) }
+    }
+
+    /// Expands the sheet by q: a pixel is 1 afterwards if its true squared distance is at most q, otherwise 0. The map is left unlabelled and
+    /// not current, scratch as after exact, the cutter up. Refusals: 30, 12, 15.
+    pub fn expand(self, sheet: &mut [u8], map: &mut [i16], scratch: &mut [i16], q: u32) -> Reply {
+        let (map, map_len) = (map.as_mut_ptr(), map.len());
+        // SAFETY: each pointer comes with the length of the slice it is from, the three slices are lent to nobody else, and the function has
+        // no `requires`. It is proved to return and to stay within the three slices.
+        unsafe { ffi::abi_session_expand(self, sheet.as_mut_ptr(), sheet.len(), map, map_len, scratch.as_mut_ptr(), scratch.len(), q) }
+    }
+
+    /// Shrinks the sheet by q: a copper pixel is 1 afterwards if every bare pixel of the sheet is at squared distance above q, all else is 0.
+    /// Otherwise as [`Session::expand`].
+    pub fn shrink(self, sheet: &mut [u8], map: &mut [i16], scratch: &mut [i16], q: u32) -> Reply {
+        let (map, map_len) = (map.as_mut_ptr(), map.len());
+        // SAFETY: as in `expand`.
+        unsafe { ffi::abi_session_shrink(self, sheet.as_mut_ptr(), sheet.len(), map, map_len, scratch.as_mut_ptr(), scratch.len(), q) }
+    }
+
+    /// Writes the skeleton of the current exact map: 1 at each pixel that is kept, 0 elsewhere. Refusals: 30, 12, 31, 36, 37.
+    pub fn skeleton(self, map: &[i16], out: &mut [u8]) -> Reply {
+        // SAFETY: each pointer comes with the length of the slice it is from, out is lent to nobody else, and the function has no `requires`.
+        // It is proved to return and to stay within the two slices.
+        unsafe { ffi::abi_session_skeleton(self, map.as_ptr(), map.len(), out.as_mut_ptr(), out.len()) }
+    }
+
+    /// Writes what the marked pixels of the current exact map cover: 1 at a pixel if its squared distance to some pixel whose mark is not 0 is
+    /// below that one's size, 0 elsewhere. Refusals: 30, 12, 31, 36, 37.
+    pub fn rebuild(self, map: &[i16], marks: &[u8], out: &mut [u8]) -> Reply {
+        // SAFETY: each pointer comes with the length of the slice it is from, out is lent to nobody else, and the function has no `requires`.
+        // It is proved to return and to stay within the three slices.
+        unsafe { ffi::abi_session_rebuild(self, map.as_ptr(), map.len(), marks.as_ptr(), marks.len(), out.as_mut_ptr(), out.len()) }
+    }
+
+    /// The part of the map that holds row y. It is empty if nothing is open, y is not below the height, or the map has a wrong length.
+    pub fn map_row(self, map: &[i16], y: u16) -> &[i16] {
+        // SAFETY: as in `place`.
+        let span = unsafe { ffi::abi_session_row(self, map.as_ptr(), map.len(), y) };
+        &map[span.from..][..span.len]
+    }
+}
