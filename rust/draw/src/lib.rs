@@ -1,0 +1,150 @@
+//! A job as a picture in SVG.
+//!
+//! The records run through the proved library, lent slices as `mill` lends them. Each build that is done starts a picture: the copper, the
+//! map as shades by size, the skeleton of an exact map as dots, and on it each place and run up to the next change of the sheet, with its
+//! record number: green where it was done, red where the gate refused it, with a cross at the pixel that failed. The disk around a place has
+//! the cutter's radius. What is refused otherwise stands in words below.
+
+mod picture;
+
+use abi::session::{Reply, Session};
+use jobs::Record;
+
+/// The most pixels of a sheet, as in `mill`.
+const PIXELS: usize = 8_192;
+
+/// Steps to the right and down, clockwise from east.
+const STEPS: [(i32, i32); 8] = [(1, 0), (1, 1), (0, 1), (-1, 1), (-1, 0), (-1, -1), (0, -1), (1, -1)];
+
+/// A sheet with what was done on it.
+pub(crate) struct Board {
+    title: String,
+    w: usize,
+    h: usize,
+    sheet: Vec<u8>,
+    /// The map, if one was built, and its skeleton, if it has one.
+    map: Option<Vec<i16>>,
+    kept: Option<Vec<u8>>,
+    tools: Vec<Tool>,
+    notes: Vec<String>,
+}
+
+/// A place or a run that the gates looked at.
+pub(crate) struct Tool {
+    record: usize,
+    from: (i32, i32),
+    /// The way from there; 0 steps for a place.
+    step: (i32, i32),
+    count: i32,
+    q: u32,
+    /// The first pixel that failed.
+    failed: Option<(i32, i32)>,
+}
+
+struct Mill {
+    session: Session,
+    sheet: Vec<u8>,
+    map: Vec<i16>,
+    scratch: Vec<i16>,
+    boards: Vec<Board>,
+    /// The copper has changed since the last board.
+    changed: bool,
+    /// What was refused before the first board.
+    early: Vec<String>,
+}
+
+/// The picture of a job's records.
+pub fn picture(records: &[Record]) -> String {
+    let (sheet, map, scratch) = (vec![0; PIXELS], vec![0; 2 * PIXELS], vec![0; PIXELS]);
+    let (boards, early) = (Vec::new(), Vec::new());
+    let mut mill = Mill { session: Session::fresh(), sheet, map, scratch, boards, changed: false, early };
+    for (at, record) in records.iter().enumerate() {
+        mill.obey(at + 1, record);
+    }
+    if mill.changed || !mill.early.is_empty() {
+        mill.add("the sheet at the end".into(), false);
+    }
+    picture::svg(&mill.boards)
+}
+
+impl Mill {
+    /// The number of pixels of the open sheet.
+    fn pixels(&self) -> usize {
+        usize::from(self.session.width) * usize::from(self.session.height)
+    }
+
+    /// Runs a record and notes what it did.
+    fn obey(&mut self, number: usize, record: &Record) {
+        let before = self.session;
+        let Reply { answer, session } = self.call(record);
+        self.session = session;
+        let line = jobs::text(std::slice::from_ref(record));
+        let words = format!("{number}: {} gives {answer}", line.trim_end());
+        match (record.kind(), answer) {
+            (4, 0) => self.add(words, true),
+            (1..=3 | 8 | 9, 0) => self.changed = true,
+            (5 | 6, 0 | 34) => self.mark(number, record, before, answer),
+            (_, 0) => {}
+            _ => self.boards.last_mut().map_or(&mut self.early, |board| &mut board.notes).push(words),
+        }
+    }
+
+    /// Makes the call that a record means, with the slices that `mill` lends.
+    fn call(&mut self, record: &Record) -> Reply {
+        let (session, pixels) = (self.session, self.pixels());
+        let short = |at: usize| record.numbers()[at] as u16;
+        let (sheet, map, scratch) = (&mut self.sheet[..pixels], &mut self.map[..2 * pixels], &mut self.scratch[..pixels]);
+        match record.kind() {
+            1 => {
+                let opened = usize::from(short(0)) * usize::from(short(1));
+                let lent = if opened <= PIXELS { opened } else { PIXELS };
+                session.open(&mut self.sheet[..lent], short(0), short(1))
+            }
+            2 => session.paint(sheet, short(0), short(1), short(2), short(3)),
+            3 => session.erase(sheet, short(0), short(1), short(2), short(3)),
+            4 => session.build(sheet, map, scratch, short(0)),
+            5 => session.place(map, short(0), short(1), record.numbers()[2]),
+            6 => session.run(map, short(0), short(1)),
+            7 => session.lift(),
+            8 => session.expand(sheet, map, scratch, record.numbers()[0]),
+            _ => session.shrink(sheet, map, scratch, record.numbers()[0]),
+        }
+    }
+
+    /// Starts a board with the sheet as it is, and the map if it is current.
+    fn add(&mut self, title: String, mapped: bool) {
+        let pixels = self.pixels();
+        let map = self.map[..2 * pixels].to_vec();
+        let mut kept = vec![0; pixels];
+        let skeleton = mapped && self.session.skeleton(&map, &mut kept).answer == 0;
+        self.boards.push(Board {
+            title,
+            w: usize::from(self.session.width),
+            h: usize::from(self.session.height),
+            sheet: self.sheet[..pixels].to_vec(),
+            map: mapped.then_some(map),
+            kept: skeleton.then_some(kept),
+            tools: Vec::new(),
+            notes: std::mem::take(&mut self.early),
+        });
+        self.changed = false;
+    }
+
+    /// Notes a place or run from the session before it.
+    fn mark(&mut self, number: usize, record: &Record, before: Session, answer: u32) {
+        let numbers = record.numbers();
+        let (from, step, count, q) = match record.kind() {
+            5 => ((numbers[0] as i32, numbers[1] as i32), (0, 0), 0, numbers[2]),
+            _ => ((i32::from(before.x), i32::from(before.y)), STEPS[numbers[0] as usize], numbers[1] as i32, before.q),
+        };
+        let mut tested = (count.min(1)..=count).map(|steps| (from.0 + steps * step.0, from.1 + steps * step.1));
+        // the cutter alone, lowered at each pixel that the call tests: the first that the gate refuses
+        let up = Session { lowered: false, x: 0, y: 0, q: 0, ..before };
+        let map = &self.map[..2 * self.pixels()];
+        let failed = tested.find(|&(x, y)| answer == 34 && up.place(map, x as u16, y as u16, q).answer == 34);
+        let tool = Tool { record: number, from, step, count, q, failed };
+        if let Some(board) = self.boards.last_mut() {
+            board.tools.push(tool);
+        }
+    }
+}
