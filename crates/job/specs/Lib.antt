@@ -1,2 +1,6 @@
 pub mod Format
 pub mod FormatLaws
+pub mod Text
+pub mod TextLaws
+pub mod Run
+pub mod RunLaws

@@ -1,14 +1,30 @@
 // The job file (document 01): splitting its bytes into records. No call asks anything of its caller: any bytes, any lengths.
 ghost use mathlib.Core.Path.{_≡_};
-ghost use Prim.Native.Nat.{_+_, _≤_, _<_};
-ghost use lib.ListN.{length, drop};
+ghost use mathlib.Core.List.{[], _∷_};
+ghost use Prim.Native.Nat.{_+_, _*_, _≤_, _<_};
+ghost use lib.ListN.{length, take, drop};
+ghost use Rattle.morphology.specs.Resize.{expanded, shrunk};
+ghost use Rattle.session.specs.State.{downAt};
+ghost use Rattle.session.specs.Calls.{onDone, placeAnswer, runAnswer, runSession};
 ghost use Rattle.job.specs.Format.{word, long, sizeOf, sizeHere, splitOf};
+ghost use Rattle.job.specs.Text.{digits, line, Put};
+ghost use Rattle.job.specs.Run.{upto, Opened, Filled, Built, Resized};
+
+use session::Reply;
+use session::Session;
 
 // The number of records and 0, or 0 and 19.
 #[repr(C)]
 pub struct Counted {
     pub records: u32,
     pub answer: u32,
+}
+
+// What a record leaves: its answer, the session, and how many pixels the open sheet has.
+struct Done {
+    answer: u32,
+    pixels: usize,
+    session: Session,
 }
 
 // ---- reading a record
@@ -27,6 +43,22 @@ fn word_at(job: &[u8], at: usize, i: usize) -> u16
     let low = wide(job[at + i]);
     let high = wide(job[at + i + 1]);
     low + 256 * high
+}
+
+fn wider(word: u16) -> u32
+    ensures { λ r. ⌜ (r ≡ word) × (r ≤ 65535) ⌝ }
+{
+    word as u32
+}
+
+// The 32-bit number there.
+fn long_at(job: &[u8], at: usize, i: usize) -> u32
+    requires { ⌜ (at + i) + 3 < length (now job) ⌝ }
+    ensures { λ r. ⌜ r ≡ long (drop at (now (job .entry))) i ⌝ }
+{
+    let low = wider(word_at(job, at, i));
+    let high = wider(word_at(job, at, i + 2));
+    low + 65536 * high
 }
 
 // The whole length of a record of a kind, or 0.
@@ -90,4 +122,175 @@ pub fn split(job: &[u8]) -> Counted
         records += 1;
     }
     Counted { records, answer: 0 }
+}
+
+// ---- writing the text
+
+// Writes one byte; returns the place behind it, as all of these do.
+fn put_byte(out: &mut [u8], at: usize, byte: u8) -> usize
+    requires { ⌜ at < length (now out) ⌝ }
+    ensures { λ r. ⌜ Put (now (out .entry)) at (byte ∷ []) r (now (out .exit)) ⌝ }
+{
+    out[at] = byte;
+    at + 1
+}
+
+// The digit of a number below ten.
+fn digit(n: u32) -> u8
+    requires { ⌜ n < 10 ⌝ }
+    ensures { λ r. ⌜ r ≡ 48 + n ⌝ }
+{
+    48 + (n as u8)
+}
+
+// Writes the last decimal digits of n, at most so many.
+fn put_number(out: &mut [u8], at: usize, n: u32, most: usize) -> usize
+    requires { ⌜ at + length (digits most n) ≤ length (now out) ⌝ }
+    ensures { λ r. ⌜ Put (now (out .entry)) at (digits most n) r (now (out .exit)) ⌝ }
+{
+    if most == 0 {
+        return at;
+    }
+    if n < 10 {
+        return put_byte(out, at, digit(n));
+    }
+    let end = put_number(out, at, n / 10, most - 1);
+    put_byte(out, end, digit(n % 10))
+}
+
+// Writes the line of a record.
+fn put_line(out: &mut [u8], at: usize, number: u32, answer: u32) -> usize
+    requires { ⌜ at + length (line number answer) ≤ length (now out) ⌝ }
+    ensures { λ r. ⌜ Put (now (out .entry)) at (line number answer) r (now (out .exit)) ⌝ }
+{
+    let numbered = put_number(out, at, number, 10);
+    let spaced = put_byte(out, numbered, 32);
+    let answered = put_number(out, spaced, answer, 10);
+    put_byte(out, answered, 10)
+}
+
+// ---- obeying a record: `at` is its place, and the open sheet has the first n bytes of the sheet buffer and 2 × n numbers of the map buffer
+
+// The first n of a slice, or all of a shorter one.
+fn first(n: usize, len: usize) -> usize
+    ensures { λ r. ⌜ (r ≡ upto n len) × (r ≤ len) ⌝ }
+{
+    if n <= len {
+        return n;
+    }
+    len
+}
+
+// The first 2 × n of a slice, or all of a shorter one.
+fn first_pairs(n: usize, len: usize) -> usize
+    ensures { λ r. ⌜ (r ≡ upto (2 * n) len) × (r ≤ len) ⌝ }
+{
+    if n <= len / 2 {
+        return n + n;
+    }
+    len
+}
+
+fn area(w: u16, h: u16) -> usize
+    ensures { λ r. ⌜ r ≡ h * w ⌝ }
+{
+    (h as usize) * (w as usize)
+}
+
+fn obey_open(s: Session, n: usize, job: &[u8], at: usize, sheet: &mut [u8]) -> Done
+    requires { ⌜ (at + 8 ≤ length (now job)) × (n ≤ length (now sheet)) ⌝ }
+    ensures { λ r. ⌜ Opened (drop at (now (job .entry))) s n (now (sheet .entry)) r (now (sheet .exit)) ⌝ }
+{
+    let w = word_at(job, at, 4);
+    let h = word_at(job, at, 6);
+    let pixels = first(area(w, h), sheet.len());
+    let reply = s.open_sheet(&mut sheet[..pixels], w, h);
+    let session = reply.session;
+    if reply.answer == 0 {
+        return Done {
+            answer: 0,
+            pixels,
+            session,
+        };
+    }
+    Done {
+        answer: reply.answer,
+        pixels: n,
+        session,
+    }
+}
+
+fn obey_paint(s: Session, n: usize, job: &[u8], at: usize, sheet: &mut [u8]) -> Reply
+    requires { ⌜ (at + 12 ≤ length (now job)) × (n ≤ length (now sheet)) ⌝ }
+    ensures { λ r. ⌜ Filled 1 (drop at (now (job .entry))) s n (now (sheet .entry)) r (now (sheet .exit)) ⌝ }
+{
+    let x = word_at(job, at, 4);
+    let y = word_at(job, at, 6);
+    let cols = word_at(job, at, 8);
+    let rows = word_at(job, at, 10);
+    s.paint(&mut sheet[..n], x, y, cols, rows)
+}
+
+fn obey_erase(s: Session, n: usize, job: &[u8], at: usize, sheet: &mut [u8]) -> Reply
+    requires { ⌜ (at + 12 ≤ length (now job)) × (n ≤ length (now sheet)) ⌝ }
+    ensures { λ r. ⌜ Filled 0 (drop at (now (job .entry))) s n (now (sheet .entry)) r (now (sheet .exit)) ⌝ }
+{
+    let x = word_at(job, at, 4);
+    let y = word_at(job, at, 6);
+    let cols = word_at(job, at, 8);
+    let rows = word_at(job, at, 10);
+    s.erase(&mut sheet[..n], x, y, cols, rows)
+}
+
+fn obey_build(s: Session, n: usize, job: &[u8], at: usize, sheet: &[u8], map: &mut [i16], scratch: &mut [i16]) -> Reply
+    requires { ⌜ (at + 6 ≤ length (now job)) × (n ≤ length (now sheet)) ⌝ }
+    ensures { λ r. ⌜ Built (drop at (now (job .entry))) s n (now (sheet .entry)) (now (map .entry)) (now (scratch .entry)) r (now (map .exit)) (now (scratch .exit)) ⌝ }
+{
+    let engine = word_at(job, at, 4);
+    let numbers = first_pairs(n, map.len());
+    let worn = first(n, scratch.len());
+    s.build(&sheet[..n], &mut map[..numbers], &mut scratch[..worn], engine)
+}
+
+fn obey_place(s: Session, n: usize, job: &[u8], at: usize, map: &[i16]) -> Reply
+    requires { ⌜ at + 12 ≤ length (now job) ⌝ }
+    ensures { λ r. ⌜ r .answer ≡ placeAnswer s (take (2 * n) (now (map .entry))) (word (drop at (now (job .entry))) 4) (word (drop at (now (job .entry))) 6) (long (drop at (now (job .entry))) 8) ⌝ }
+    ensures { λ r. ⌜ r .session ≡ onDone (r .answer) (downAt (word (drop at (now (job .entry))) 4) (word (drop at (now (job .entry))) 6) (long (drop at (now (job .entry))) 8) s) s ⌝ }
+{
+    let x = word_at(job, at, 4);
+    let y = word_at(job, at, 6);
+    let q = long_at(job, at, 8);
+    let numbers = first_pairs(n, map.len());
+    s.place(&map[..numbers], x, y, q)
+}
+
+fn obey_run(s: Session, n: usize, job: &[u8], at: usize, map: &[i16]) -> Reply
+    requires { ⌜ at + 8 ≤ length (now job) ⌝ }
+    ensures { λ r. ⌜ r .answer ≡ runAnswer s (take (2 * n) (now (map .entry))) (word (drop at (now (job .entry))) 4) (word (drop at (now (job .entry))) 6) ⌝ }
+    ensures { λ r. ⌜ r .session ≡ onDone (r .answer) (runSession s (word (drop at (now (job .entry))) 4) (word (drop at (now (job .entry))) 6)) s ⌝ }
+{
+    let direction = word_at(job, at, 4);
+    let count = word_at(job, at, 6);
+    let numbers = first_pairs(n, map.len());
+    s.run(&map[..numbers], direction, count)
+}
+
+fn obey_expand(s: Session, n: usize, job: &[u8], at: usize, sheet: &mut [u8], map: &mut [i16], scratch: &mut [i16]) -> Reply
+    requires { ⌜ (at + 8 ≤ length (now job)) × (n ≤ length (now sheet)) ⌝ }
+    ensures { λ r. ⌜ Resized (drop at (now (job .entry))) s n (now (sheet .entry)) (now (map .entry)) (now (scratch .entry)) r (now (sheet .exit)) (now (map .exit)) (now (scratch .exit)) (λ t. expanded (s .width) (s .height) (long (drop at (now (job .entry))) 4) t) ⌝ }
+{
+    let q = long_at(job, at, 4);
+    let numbers = first_pairs(n, map.len());
+    let worn = first(n, scratch.len());
+    s.expand(&mut sheet[..n], &mut map[..numbers], &mut scratch[..worn], q)
+}
+
+fn obey_shrink(s: Session, n: usize, job: &[u8], at: usize, sheet: &mut [u8], map: &mut [i16], scratch: &mut [i16]) -> Reply
+    requires { ⌜ (at + 8 ≤ length (now job)) × (n ≤ length (now sheet)) ⌝ }
+    ensures { λ r. ⌜ Resized (drop at (now (job .entry))) s n (now (sheet .entry)) (now (map .entry)) (now (scratch .entry)) r (now (sheet .exit)) (now (map .exit)) (now (scratch .exit)) (λ t. shrunk (s .width) (s .height) (long (drop at (now (job .entry))) 4) t) ⌝ }
+{
+    let q = long_at(job, at, 4);
+    let numbers = first_pairs(n, map.len());
+    let worn = first(n, scratch.len());
+    s.shrink(&mut sheet[..n], &mut map[..numbers], &mut scratch[..worn], q)
 }

@@ -1,0 +1,62 @@
+-- `job::obey_build` meets its contract: the session builds in the lent parts, which come back in their places.
+-- Assumes nothing.
+use mathlib.Core.Path.{sym}
+use Prim.Native.Nat.{_*_}
+use borrow.Author.Needs.{needs}
+use lib.Seq.{length-take-le}
+use Rattle.job.specs.RunLaws.{upto-take, upto-drop, upto-lent, upto-behind}
+use Rattle.job.proofs.obey_build.Statement.{statement}
+use Rattle.job.proofs.obey_build.Tie as tie
+
+slice-aggregate-build : tie.Need-slice-aggregate-build
+slice-aggregate-build c =
+    let t = c .before .before .before .before .before .before in sym (length-take-le (t .args .n) (t .args .sheet .now) (t .pre .1))
+
+slice-aggregate-build-2 : tie.Need-slice-aggregate-build-2
+slice-aggregate-build-2 c =
+    let m = c .before .before .before in
+    sym (length-take-le (m .first-pairs .result) (m .before .before .before .before .args .map .now) (m .first-pairs .ensures .1))
+
+slice-aggregate-build-3 : tie.Need-slice-aggregate-build-3
+slice-aggregate-build-3 c =
+    let f = c .before .before .before in
+    sym (length-take-le (f .first .result) (f .before .before .before .before .before .args .scratch .now) (f .first .ensures .1))
+
+returns : tie.Need-returns
+returns c =
+    let p = c .before .before in
+    let f = p .before .before .before .before in
+    let m = f .before in
+    let e = m .before in
+    let a = e .before .before .before .args in
+    let numbers = m .first-pairs .ensures .0 in
+    let worn = f .first .ensures .0 in
+    record {
+      answer =
+        rw (← e .word-at .ensures, ← upto-take (2 * a .n) (a .map .now) numbers, ← upto-take (a .n) (a .scratch .now) worn) (p .build .ensures .0);
+      session = rw (← e .word-at .ensures) (p .build .ensures .1 .0);
+      lent-map =
+        rw (upto-lent (2 * a .n) (a .map .now) (p .build .last .1 .1 .0) numbers (p .build .kept .1 .1 .0),
+          ← e .word-at .ensures, ← upto-take (2 * a .n) (a .map .now) numbers)
+        (p .build .ensures .1 .1 .0);
+      behind-map = upto-behind (2 * a .n) (a .map .now) (p .build .last .1 .1 .0) numbers (p .build .kept .1 .1 .0);
+      left-scratch =
+        rw (← e .word-at .ensures, ← upto-take (a .n) (a .scratch .now) worn, ← upto-drop (a .n) (a .scratch .now) worn, p .build .ensures .1 .1 .1);
+    }
+
+pub obey-build-spec : {M : Type 1} → statement M
+obey-build-spec =
+    tie.close
+    (tie.spec
+    (λ c κs. search needs)
+    (λ c κs. search needs)
+    (λ c κs. search needs)
+    slice-aggregate-build
+    (λ c. search needs)
+    slice-aggregate-build-2
+    (λ c. search needs)
+    slice-aggregate-build-3
+    (λ c κs. search needs)
+    (λ c. search needs)
+    (λ c. search needs)
+    returns)

@@ -1,0 +1,45 @@
+-- `job::obey_paint` meets its contract: the session paints in the lent part, which comes back in its place.
+-- Assumes nothing.
+use mathlib.Core.Path.{sym}
+use borrow.Author.Needs.{needs}
+use lib.Seq.{length-take-le}
+use Rattle.job.specs.RunLaws.{part-lent, part-behind}
+use Rattle.job.proofs.obey_paint.Statement.{statement}
+use Rattle.job.proofs.obey_paint.Tie as tie
+
+slice-aggregate-paint : tie.Need-slice-aggregate-paint
+slice-aggregate-paint c =
+    let t = c .before .before .before .before .before .before .before in sym (length-take-le (t .args .n) (t .args .sheet .now) (t .pre .1))
+
+returns : tie.Need-returns
+returns c =
+    let p = c .before .before in
+    let rows = p .before .before in
+    let cols = rows .before in
+    let y = cols .before in
+    let x = y .before in
+    let a = x .before .before .before .args in
+    record {
+      answer =
+        rw (← x .word-at .ensures, ← y .word-at2 .ensures, ← cols .word-at3 .ensures, ← rows .word-at4 .ensures) (p .paint .ensures .0);
+      session = p .paint .ensures .1 .0;
+      lent =
+        rw (part-lent (a .n) (a .sheet .now) (p .paint .last .1 .0) (p .paint .kept .1 .0),
+          ← x .word-at .ensures, ← y .word-at2 .ensures, ← cols .word-at3 .ensures, ← rows .word-at4 .ensures)
+        (p .paint .ensures .1 .1);
+      behind = part-behind (a .n) (a .sheet .now) (p .paint .last .1 .0) (p .paint .kept .1 .0);
+    }
+
+pub obey-paint-spec : {M : Type 1} → statement M
+obey-paint-spec =
+    tie.close
+    (tie.spec
+    (λ c κs. search needs)
+    (λ c κs. search needs)
+    (λ c κs. search needs)
+    (λ c κs. search needs)
+    (λ c. search needs)
+    slice-aggregate-paint
+    (λ c κs. search needs)
+    (λ c. search needs)
+    returns)

@@ -1,0 +1,81 @@
+-- Laws of the text of a job: how long it gets, and how it is written piece by piece.
+-- Assumes nothing.
+use mathlib.Core.Path.{_≡_, refl, sym, ap, _∙_}
+use mathlib.Core.List.{List, [], _∷_, _++_, append-assoc, append-nil}
+use mathlib.Core.Bool.{Bool, true, false, cond}
+use Prim.Native.Nat.{ℕ, zero, suc, _+_, _-_, _*_, _/_, _%_, _<_, _≤_}
+use native.Mathlib.Omega.{arith}
+use native.Mathlib.Nat.{div-lt-iff-lt-mul}
+use native.Mathlib.Numerals.{add-one}
+use borrow.Author.Tests.{lt-ltb, le-ltb}
+use mathlib.Core.Logic.{_↔_}
+use lib.Dec.{ltb}
+use lib.ListN.{length, take, drop, set, length-append}
+use lib.Seq.{drop-drop, take-suc-set, drop-set-lt}
+use Rattle.raster.specs.Tests.{cond-ind}
+use Rattle.job.specs.Text.{digits, decimal, line, textFrom, Put}
+
+-- ---- writing
+
+-- nothing, one byte, and one piece after another
+pub put-none : (out : List ℕ) (at : ℕ) → Put out at [] at out
+put-none out at = record { ends = omega arith; front = sym (append-nil _); back = refl }
+
+pub put-byte : (out : List ℕ) (at v : ℕ) → at < length out → Put out at (v ∷ []) (at + 1) (set out at v)
+put-byte out at v h = record {
+  ends = refl;
+  front = rw add-one (take-suc-set out at v h);
+  back = drop-set-lt (at + 1) out at v (omega arith);
+}
+
+pub put-more : {out mid after : List ℕ} {at p e : ℕ} {t u : List ℕ} → Put out at t p mid → Put mid p u e after → Put out at (t ++ u) e after
+put-more {out} {mid} {after} {at} {p} {e} {t} {u} a b = record {
+  ends = omega (arith, a .ends, b .ends, length-append t u);
+  front = b .front ∙ ap (λ (l : List ℕ). l ++ u) (a .front) ∙ append-assoc (take at out) t u;
+  back =
+    let n : e ≡ p + length u = b .ends in
+    b .back ∙ rw n (sym (drop-drop (length u) p mid) ∙ ap (drop (length u)) (a .back) ∙ drop-drop (length u) p out);
+}
+
+-- a number's digits: the last one, and those before it
+pub digits-one : (most n : ℕ) → (most ≡ 0 → ⊥) → n < 10 → digits most n ≡ (48 + n) ∷ []
+unfolding digits
+digits-one zero n some h = absurd (some refl)
+digits-one (suc k) n some h = rw (lt-ltb n 10 h)
+
+pub digits-more : (most n : ℕ) → (most ≡ 0 → ⊥) → 10 ≤ n → digits most n ≡ digits (most - 1) (n / 10) ++ ((48 + n % 10) ∷ [])
+unfolding digits
+digits-more zero n some h = absurd (some refl)
+digits-more (suc k) n some h = let e : suc k - 1 ≡ k = omega arith in rw (le-ltb n 10 h, e)
+
+-- ---- how long it gets
+
+more-digits : (f n k m : ℕ) → (n / 10 < m → length (digits f (n / 10)) ≤ k) → n < 10 * m → length (digits (suc f) n) ≤ suc k
+unfolding digits
+more-digits f n k m h lt =
+    cond-ind (λ (l : List ℕ). length l ≤ suc k) (ltb n 10) (λ _. omega arith)
+    (λ _. omega (arith, length-append (digits f (n / 10)) ((48 + n % 10) ∷ []), h (omega arith)))
+
+one-digit : (f n : ℕ) → n < 10 → length (digits (suc f) n) ≤ 1
+unfolding digits
+one-digit f n h = rw (lt-ltb n 10 h) (omega arith)
+
+two-digits : (f n : ℕ) → n < 100 → length (digits (suc (suc f)) n) ≤ 2
+two-digits f n h = more-digits (suc f) n 1 10 (one-digit f (n / 10)) h
+
+three-digits : (f n : ℕ) → n < 1000 → length (digits (suc (suc (suc f))) n) ≤ 3
+three-digits f n h = more-digits (suc (suc f)) n 2 100 (two-digits f (n / 10)) h
+
+four-digits : (f n : ℕ) → n < 10000 → length (digits (suc (suc (suc (suc f)))) n) ≤ 4
+four-digits f n h = more-digits (suc (suc (suc f))) n 3 1000 (three-digits f (n / 10)) h
+
+five-digits : (f n : ℕ) → n < 100000 → length (digits (suc (suc (suc (suc (suc f))))) n) ≤ 5
+five-digits f n h = more-digits (suc (suc (suc (suc f)))) n 4 10000 (four-digits f (n / 10)) h
+
+pub line-length : (i a : ℕ) → length (line i a) ≡ length (decimal i) + (1 + (length (decimal a) + 1))
+unfolding line
+line-length i a = simp length-append (omega arith)
+
+-- a record's line has at most nine bytes
+pub nine-bytes : (i a : ℕ) → i < 100000 → a < 100 → length (line i a) ≤ 9
+nine-bytes i a fi fa = omega (arith, line-length i a, five-digits 5 i fi, two-digits 8 a fa)
