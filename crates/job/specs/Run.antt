@@ -18,7 +18,7 @@ use Rattle.raster.specs.Map.{unmapped}
 use Rattle.raster.specs.Sheet.{bare}
 use Rattle.guarantee.specs.Board as calls
 use Rattle.guarantee.specs.World.{World, world, answer, after}
-use Rattle.job.specs.Format.{Order, opening, paint, erase, build, place, run, lift, expand, shrink, word, long}
+use Rattle.job.specs.Format.{Order, opening, paint, erase, build, place, run, lift, expand, shrink, word, long, sizeOf}
 use Rattle.job.specs.declared.Done.{Done}
 
 -- what a job is run on: the world of its list of calls, the sheet and map buffers behind the parts that are lent, and the scratch buffer
@@ -108,6 +108,19 @@ stepped o b =
       map = mapBehind o (answerOf o b) b;
       scratch = scratchAfter o (answerOf o b) b;
     }
+
+-- ---- obeying a record
+
+-- a whole record of a known kind stands at the front of the bytes
+pub record Here (b : List ℕ) : Type 0 where
+  pub known : (1 ≤ word b 2) × (word b 2 ≤ 9)
+  pub header : 4 ≤ length b
+  pub size : sizeOf (word b 2) ≤ length b
+
+-- it was answered with a, and left the bench as `next`
+pub record Obeyed (o : Order) (b : Bench) (a : ℕ) (next : Bench) : Type 0 where
+  pub answer : a ≡ answerOf o b
+  pub left : next ≡ stepped o b
 
 -- ---- what the functions that obey one kind of record leave, beside b, the record's bytes
 

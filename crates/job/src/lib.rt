@@ -6,9 +6,9 @@ ghost use lib.ListN.{length, take, drop};
 ghost use Rattle.morphology.specs.Resize.{expanded, shrunk};
 ghost use Rattle.session.specs.State.{downAt};
 ghost use Rattle.session.specs.Calls.{onDone, placeAnswer, runAnswer, runSession};
-ghost use Rattle.job.specs.Format.{word, long, sizeOf, sizeHere, splitOf};
+ghost use Rattle.job.specs.Format.{word, long, sizeOf, sizeHere, orderHere, splitOf};
 ghost use Rattle.job.specs.Text.{digits, line, Put};
-ghost use Rattle.job.specs.Run.{upto, Opened, Filled, Built, Resized};
+ghost use Rattle.job.specs.Run.{upto, benchOf, Here, Obeyed, Opened, Filled, Built, Resized};
 
 use session::Reply;
 use session::Session;
@@ -293,4 +293,42 @@ fn obey_shrink(s: Session, n: usize, job: &[u8], at: usize, sheet: &mut [u8], ma
     let numbers = first_pairs(n, map.len());
     let worn = first(n, scratch.len());
     s.shrink(&mut sheet[..n], &mut map[..numbers], &mut scratch[..worn], q)
+}
+
+// Any record but an opening.
+fn act(
+    s: Session,
+    n: usize,
+    job: &[u8],
+    at: usize,
+    sheet: &mut [u8],
+    map: &mut [i16],
+    scratch: &mut [i16],
+) -> Reply
+    requires { ⌜ Here (drop at (now job)) × ((2 ≤ word (drop at (now job)) 2) × (n ≤ length (now sheet))) ⌝ }
+    ensures { λ r. ⌜ Obeyed (orderHere (drop at (now (job .entry)))) (benchOf s n (now (sheet .entry)) (now (map .entry)) (now (scratch .entry))) (r .answer) (benchOf (r .session) n (now (sheet .exit)) (now (map .exit)) (now (scratch .exit))) ⌝ }
+{
+    let kind = word_at(job, at, 2);
+    if kind == 2 {
+        return obey_paint(s, n, job, at, sheet);
+    }
+    if kind == 3 {
+        return obey_erase(s, n, job, at, sheet);
+    }
+    if kind == 4 {
+        return obey_build(s, n, job, at, sheet, map, scratch);
+    }
+    if kind == 5 {
+        return obey_place(s, n, job, at, map);
+    }
+    if kind == 6 {
+        return obey_run(s, n, job, at, map);
+    }
+    if kind == 7 {
+        return s.lift();
+    }
+    if kind == 8 {
+        return obey_expand(s, n, job, at, sheet, map, scratch);
+    }
+    obey_shrink(s, n, job, at, sheet, map, scratch)
 }
