@@ -4,3 +4,4 @@ pub mod Text
 pub mod TextLaws
 pub mod Run
 pub mod RunLaws
+pub mod RunningLaws

@@ -3,22 +3,24 @@
 -- Assumes nothing.
 use mathlib.Core.List.{List, [], _∷_, _++_}
 use mathlib.Core.Option.{some}
-use mathlib.Core.Bool.{cond}
+use mathlib.Core.Bool.{true, cond, not}
 use mathlib.Core.Path.{_≡_}
-use Prim.Native.Nat.{ℕ, _*_, _≤_}
-use lib.Dec.{leb}
+use Prim.Native.Nat.{ℕ, _+_, _-_, _*_, _≤_}
+use lib.Dec.{eqb, leb, ltb}
 use lib.IntN.{ℤ}
 use lib.ListN.{length, take, drop}
 use Rattle.exact.specs.Nearest.{cleared}
 use Rattle.session.specs.declared.Session.{Session}
 use Rattle.session.specs.declared.Reply.{Reply}
 use Rattle.session.specs.Calls.{onDone, openAnswer, fillAnswer, filledBy, buildAnswer, buildSession, buildMap, buildScratch, resizeAnswer}
-use Rattle.session.specs.State.{openedAs, stale}
+use Rattle.session.specs.State.{fresh, openedAs, stale}
 use Rattle.raster.specs.Map.{unmapped}
+use Rattle.raster.specs.Refusal.{firstOf}
 use Rattle.raster.specs.Sheet.{bare}
 use Rattle.guarantee.specs.Board as calls
 use Rattle.guarantee.specs.World.{World, world, answer, after}
-use Rattle.job.specs.Format.{Order, opening, paint, erase, build, place, run, lift, expand, shrink, word, long, sizeOf}
+use Rattle.job.specs.Format.{Order, opening, paint, erase, build, place, run, lift, expand, shrink, word, long, sizeOf, splits, ordersIn, isJob, ordersOf}
+use Rattle.job.specs.Text.{line, textFrom}
 use Rattle.job.specs.declared.Done.{Done}
 
 -- what a job is run on: the world of its list of calls, the sheet and map buffers behind the parts that are lent, and the scratch buffer
@@ -109,6 +111,59 @@ stepped o b =
       scratch = scratchAfter o (answerOf o b) b;
     }
 
+-- ---- a list of records
+
+-- the calls that they mean, each on what those before it leave
+unfoldable pub callsOf : List Order → Bench → List calls.Call
+callsOf [] b = []
+callsOf (o ∷ rest) b = callOf o b ∷ callsOf rest (stepped o b)
+
+-- what they leave
+unfoldable pub benchAfter : List Order → Bench → Bench
+benchAfter [] b = b
+benchAfter (o ∷ rest) b = benchAfter rest (stepped o b)
+
+-- the answers of a list of calls
+unfoldable pub answersOf : List calls.Call → World → List ℕ
+answersOf [] w = []
+answersOf (c ∷ rest) w = answer c w ∷ answersOf rest (after c w)
+
+-- ---- a job, from a fresh session
+
+-- nothing of the buffers is lent yet
+abbrev pub startOf : List ℕ → (map scratch : List ℤ) → Bench
+startOf sheet map scratch = benchOf fresh 0 sheet map scratch
+
+-- the lines of its records, numbered from 1
+unfoldable pub reportOf : List Order → Bench → List ℕ
+reportOf os b = textFrom 1 (answersOf (callsOf os b) (b .world))
+
+-- the text that the program prints: a job that does not split is `0 19` alone
+unfoldable pub textOf : List ℕ → Bench → List ℕ
+textOf job b = cond (isJob job) (reportOf (ordersOf job) b) (line 0 19)
+
+-- the room that its text may need: nine bytes a record, or five
+unfoldable pub roomFor : List ℕ → ℕ
+roomFor job = cond (isJob job) (9 * length (ordersOf job)) 5
+
+-- 12 if the text may not fit, 19 if the job does not split; neither runs anything
+unfoldable pub ranAnswer : (job out : List ℕ) → ℕ
+ranAnswer job out = firstOf ((ltb (length out) (roomFor job), 12) ∷ (not (isJob job), 19) ∷ [])
+
+-- the text stands at the front of the output buffer, unless it may not fit
+unfoldable pub printed : (job : List ℕ) → Bench → (out : List ℕ) → List ℕ
+printed job b out = cond (eqb (ranAnswer job out) 12) [] (textOf job b)
+
+-- what is left in the buffers
+unfoldable pub benchLeft : (job out : List ℕ) → Bench → Bench
+benchLeft job out b = onDone (ranAnswer job out) (benchAfter (ordersOf job) b) b
+
+-- the buffers are those of the bench
+pub record Left (b : Bench) (sheet : List ℕ) (map scratch : List ℤ) : Type 0 where
+  pub sheet-left : sheet ≡ sheetOf b
+  pub map-left : map ≡ mapOf b
+  pub scratch-left : scratch ≡ b .scratch
+
 -- ---- obeying a record
 
 -- a whole record of a known kind stands at the front of the bytes
@@ -121,6 +176,18 @@ pub record Here (b : List ℕ) : Type 0 where
 pub record Obeyed (o : Order) (b : Bench) (a : ℕ) (next : Bench) : Type 0 where
   pub answer : a ≡ answerOf o b
   pub left : next ≡ stepped o b
+
+-- so many records in: those that are left, from here, do what all of them do from the start
+pub record Running (job : List ℕ) (start : Bench) (empty : List ℕ) (i at end : ℕ) (b : Bench) (out : List ℕ) : Type 0 where
+  pub splitting : splits (length job - i) (drop at job) ≡ true
+  pub bench : benchAfter (ordersIn (length job - i) (drop at job)) b ≡ benchAfter (ordersOf job) start
+  pub text :
+    take end out ++ textFrom (i + 1) (answersOf (callsOf (ordersIn (length job - i) (drop at job)) b) (b .world))
+    ≡ reportOf (ordersOf job) start
+  pub back : drop end out ≡ drop end empty
+  pub count : i + length (ordersIn (length job - i) (drop at job)) ≡ length (ordersOf job)
+  pub begun : (i ≤ at) × (at ≤ length job)
+  pub short : end ≤ 9 * i
 
 -- ---- what the functions that obey one kind of record leave, beside b, the record's bytes
 

@@ -1,14 +1,15 @@
 // The job file (document 01): splitting its bytes into records. No call asks anything of its caller: any bytes, any lengths.
 ghost use mathlib.Core.Path.{_≡_};
+ghost use mathlib.Core.Bool.{true};
 ghost use mathlib.Core.List.{[], _∷_};
 ghost use Prim.Native.Nat.{_+_, _*_, _≤_, _<_};
 ghost use lib.ListN.{length, take, drop};
 ghost use Rattle.morphology.specs.Resize.{expanded, shrunk};
 ghost use Rattle.session.specs.State.{downAt};
 ghost use Rattle.session.specs.Calls.{onDone, placeAnswer, runAnswer, runSession};
-ghost use Rattle.job.specs.Format.{word, long, sizeOf, sizeHere, orderHere, splitOf};
+ghost use Rattle.job.specs.Format.{word, long, sizeOf, sizeHere, orderHere, isJob, ordersOf, splitOf};
 ghost use Rattle.job.specs.Text.{digits, line, Put};
-ghost use Rattle.job.specs.Run.{upto, benchOf, Here, Obeyed, Opened, Filled, Built, Resized};
+ghost use Rattle.job.specs.Run.{upto, benchOf, startOf, reportOf, benchAfter, Here, Obeyed, Left, Opened, Filled, Built, Resized};
 
 use session::Reply;
 use session::Session;
@@ -331,4 +332,59 @@ fn act(
         return obey_expand(s, n, job, at, sheet, map, scratch);
     }
     obey_shrink(s, n, job, at, sheet, map, scratch)
+}
+
+// A record.
+fn obey(
+    s: Session,
+    n: usize,
+    job: &[u8],
+    at: usize,
+    sheet: &mut [u8],
+    map: &mut [i16],
+    scratch: &mut [i16],
+) -> Done
+    requires { ⌜ Here (drop at (now job)) × (n ≤ length (now sheet)) ⌝ }
+    ensures { λ r. ⌜ Obeyed (orderHere (drop at (now (job .entry)))) (benchOf s n (now (sheet .entry)) (now (map .entry)) (now (scratch .entry))) (r .answer) (benchOf (r .session) (r .pixels) (now (sheet .exit)) (now (map .exit)) (now (scratch .exit))) ⌝ }
+    ensures { λ r. ⌜ r .pixels ≤ length (now (sheet .exit)) ⌝ }
+{
+    if word_at(job, at, 2) == 1 {
+        return obey_open(s, n, job, at, sheet);
+    }
+    let reply = act(s, n, job, at, sheet, map, scratch);
+    let session = reply.session;
+    Done {
+        answer: reply.answer,
+        pixels: n,
+        session,
+    }
+}
+
+// All records of a job that splits, from a fresh session, with a line of text for each.
+fn run_all(
+    job: &[u8],
+    sheet: &mut [u8],
+    map: &mut [i16],
+    scratch: &mut [i16],
+    out: &mut [u8],
+) -> usize
+    requires { ⌜ (isJob (now job) ≡ true) × (9 * length (ordersOf (now job)) ≤ length (now out)) ⌝ }
+    ensures { λ r. ⌜ Put (now (out .entry)) 0 (reportOf (ordersOf (now (job .entry))) (startOf (now (sheet .entry)) (now (map .entry)) (now (scratch .entry)))) r (now (out .exit)) ⌝ }
+    ensures { λ r. ⌜ Left (benchAfter (ordersOf (now (job .entry))) (startOf (now (sheet .entry)) (now (map .entry)) (now (scratch .entry)))) (now (sheet .exit)) (now (map .exit)) (now (scratch .exit)) ⌝ }
+{
+    let mut s = Session::fresh();
+    let mut n = 0;
+    let mut at = 0;
+    let mut i = 0;
+    let mut end = 0;
+    while at < job.len() {
+        let done = obey(s, n, job, at, sheet, map, scratch);
+        i += 1;
+        end = put_line(out, end, i, done.answer);
+        at += size_at(job, at);
+        n = done.pixels;
+        let session = done.session;
+        s = session;
+    }
+    end
 }

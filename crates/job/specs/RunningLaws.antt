@@ -1,0 +1,165 @@
+-- Laws of a job that is running: how large an answer gets, and the loop over the records: its start, a turn, its end.
+-- Assumes nothing.
+use mathlib.Core.Path.{_≡_, refl, sym, ap, _∙_}
+use mathlib.Core.Bool.{Bool, true, false, cond, not, _&&_, false≢true}
+use mathlib.Core.List.{List, [], _∷_, _++_, append-assoc, append-nil}
+use Prim.Native.Nat.{ℕ, _+_, _-_, _*_, _<_, _≤_}
+use native.Mathlib.Omega.{arith}
+use lib.Dec.{eqb, leb, ltb}
+use lib.IntN.{ℤ}
+use lib.ListN.{length, take, drop, length-drop, take-append-drop}
+use lib.Seq.{length-take-le, drop-drop}
+use borrow.Author.Tests.{ltb-true, leb-true}
+use Rattle.raster.specs.Pixels.{index}
+use Rattle.raster.specs.Refusal.{firstOf}
+use Rattle.raster.specs.Tests.{and-left, and-right, cond-ind}
+use Rattle.session.specs.declared.Session.{Session}
+use Rattle.session.specs.Calls.{
+  lastOf,
+  scanOf,
+  passesAt,
+  blocked,
+  openAnswer,
+  fillAnswer,
+  buildRefusal,
+  buildAnswer,
+  placeRefusal,
+  placeAnswer,
+  runRefusal,
+  runAnswer,
+  resizeAnswer,
+  readAnswer,
+}
+use Rattle.guarantee.specs.Board as calls
+use Rattle.guarantee.specs.World.{World, answer}
+use Rattle.job.specs.Format.{Order, sizeHere, orderHere, splits, ordersIn, isJob, ordersOf}
+use Rattle.job.specs.FormatLaws.{size-fits, splits-turn, orders-turn, splits-not, splits-end, orders-end}
+use Rattle.job.specs.Text.{line, textFrom, Put}
+use Rattle.job.specs.TextLaws.{nine-bytes}
+use Rattle.job.specs.Run.{Bench, benchOf, sheetOf, mapOf, callOf, callsOf, benchAfter, answersOf, reportOf, Here, Obeyed, Left, Running}
+use Rattle.job.specs.RunLaws.{here}
+
+-- ---- no answer has more than two digits
+
+small : List (Bool × ℕ) → Bool
+small [] = true
+small ((when, number) ∷ rest) = ltb number 100 && small rest
+
+first-small : (table : List (Bool × ℕ)) → small table ≡ true → firstOf table < 100
+unfolding small firstOf
+first-small [] e = omega arith
+first-small ((when, number) ∷ rest) e =
+    cond-ind (λ (n : ℕ). n < 100) when
+    (λ _. ltb-true number 100 (and-left (ltb number 100) _ e))
+    (λ _. first-small rest (and-right (ltb number 100) _ e))
+
+last-small : (r : ℕ) (when : Bool) (number : ℕ) → r < 100 → number < 100 → lastOf r when number < 100
+last-small r when number f g =
+    cond-ind (λ (n : ℕ). n < 100) (eqb r 0)
+    (λ _. cond-ind (λ (n : ℕ). n < 100) when (λ _. g) (λ _. omega arith))
+    (λ _. f)
+
+pub two-digits : (c : calls.Call) (w : World) → answer c w < 100
+unfolding small openAnswer fillAnswer buildRefusal buildAnswer placeRefusal placeAnswer runRefusal runAnswer resizeAnswer readAnswer
+two-digits (calls.opening a b o) w = first-small _ refl
+two-digits (calls.paint x y c r) w = first-small _ refl
+two-digits (calls.erase x y c r) w = first-small _ refl
+two-digits (calls.build e s) w =
+    last-small (buildRefusal (w .session) (w .sheet) (w .map) s e) (not (eqb e 1) && scanOf (w .session) (w .sheet) e .over) 35 (first-small _ refl) (omega arith)
+two-digits (calls.place x y q) w =
+    last-small (placeRefusal (w .session) (w .map) x y q) (not (passesAt (w .session .engine) (w .map) (index (w .session .width) x y) q)) 34
+    (first-small _ refl) (omega arith)
+two-digits (calls.run d n) w =
+    last-small (runRefusal (w .session) (w .map) d n) (blocked (w .session) (w .map) d n) 34 (first-small _ refl) (omega arith)
+two-digits calls.lift w = omega arith
+two-digits (calls.expand q s) w = first-small _ refl
+two-digits (calls.shrink q s) w = first-small _ refl
+two-digits (calls.skeleton o) w = first-small _ refl
+two-digits (calls.rebuild m o) w = first-small _ refl
+two-digits calls.aside w = omega arith
+
+-- ---- the loop
+
+pub job-limit : (job : List ℕ) → isJob job ≡ true → length job ≤ 65536
+unfolding isJob
+job-limit job is = leb-true (length job) 65536 (and-left (leb (length job) 65536) _ is)
+
+pub running-start : (job : List ℕ) (start : Bench) (out : List ℕ) → isJob job ≡ true → Running job start out 0 0 0 start out
+unfolding isJob ordersOf reportOf
+running-start job start out is =
+    let z : length job - 0 ≡ length job = omega arith in record {
+      splitting = rw z (and-right (leb (length job) 65536) _ is);
+      bench = rw z;
+      text = rw z;
+      back = refl;
+      count = rw z (omega arith);
+      begun = (omega arith, omega arith);
+      short = omega arith;
+    }
+
+module _ {job : List ℕ} {start : Bench} {empty : List ℕ} {i at end : ℕ} {b : Bench} {out : List ℕ} (r : Running job start empty i at end b out) where
+  module _ (more : at < length job) where
+    some-size : {size : ℕ} → size ≡ sizeHere (drop at job) → size ≡ 0 → ⊥
+    some-size is z = false≢true (sym (splits-not job i at is z more (r .begun .0)) ∙ r .splitting)
+
+    -- the record ends within the job
+    pub running-size : {size : ℕ} → size ≡ sizeHere (drop at job) → (1 ≤ size) × (at + size ≤ length job)
+    running-size is = (omega (arith, some-size is), omega (arith, size-fits (drop at job), length-drop at job, is))
+
+    -- its line has at most nine bytes
+    pub running-line : {o : Order} {a : ℕ} {next : Bench} → isJob job ≡ true → Obeyed o b a next → length (line (i + 1) a) ≤ 9
+    running-line {o} {a} is ob =
+        nine-bytes (i + 1) a (omega (arith, job-limit job is, r .begun .0)) (omega (arith, ob .answer, two-digits (callOf o b) (b .world)))
+
+    pub running-here : Here (drop at job)
+    running-here = here (drop at job) refl (some-size refl)
+
+    -- the next line has its room
+    pub running-room : {text : ℕ} → 9 * length (ordersOf job) ≤ length out → text ≤ 9 → end + text ≤ length out
+    running-room fits short =
+        let o = orders-turn job i at refl (some-size refl) more (r .begun .0) in
+        omega (arith, r .count, ap length o, r .short, fits, short)
+
+    pub running-turn : {size a e : ℕ} {next : Bench} {written : List ℕ} → size ≡ sizeHere (drop at job)
+        → Obeyed (orderHere (drop at job)) b a next → Put out end (line (i + 1) a) e written → length (line (i + 1) a) ≤ 9
+        → Running job start empty (i + 1) (at + size) e next written
+    unfolding callsOf benchAfter answersOf textFrom
+    running-turn {size} {a} {e} {next} {written} is ob p short =
+        let some = some-size is in
+        let o = orders-turn job i at is some more (r .begun .0) in record {
+          splitting = sym (splits-turn job i at is some more (r .begun .0)) ∙ r .splitting;
+          bench = rw (ob .left) (rw o at (r .bench));
+          text = rw (p .front, append-assoc, ob .left, ob .answer) (rw o at (r .text));
+          back =
+            let n : e ≡ end + length (line (i + 1) a) = p .ends in
+            p .back ∙ rw n (sym (drop-drop (length (line (i + 1) a)) end out) ∙ ap (drop (length (line (i + 1) a))) (r .back) ∙ drop-drop (length (line (i + 1) a)) end empty);
+          count = omega (arith, r .count, ap length o);
+          begun = (omega (arith, r .begun .0, some), running-size is .1);
+          short = omega (arith, p .ends, r .short);
+        }
+
+  module _ (done : length job ≤ at) where
+    none-left : ordersIn (length job - i) (drop at job) ≡ []
+    none-left = orders-end (length job - i) (drop at job) (omega (arith, length-drop at job))
+
+    pub running-end : 9 * length (ordersOf job) ≤ length out → Put empty 0 (reportOf (ordersOf job) start) end out
+    unfolding callsOf answersOf textFrom
+    running-end fits =
+        let t : take end out ≡ reportOf (ordersOf job) start = sym (append-nil (take end out)) ∙ (rw none-left at (r .text)) in
+        let within : end ≤ length out = omega (arith, r .short, r .count, fits) in record {
+          ends = omega (arith, length-take-le end out within, ap length t);
+          front = t;
+          back = r .back;
+        }
+
+    pub running-left : b ≡ benchAfter (ordersOf job) start
+    unfolding benchAfter
+    running-left = rw none-left at (r .bench)
+
+-- the buffers that a session works on
+pub buffers : {t : Bench} (s : Session) (n : ℕ) (sheet : List ℕ) (map scratch : List ℤ) → benchOf s n sheet map scratch ≡ t → Left t sheet map scratch
+buffers s n sheet map scratch e = record {
+  sheet-left = rw (← e) (sym (take-append-drop n sheet));
+  map-left = rw (← e) (sym (take-append-drop (2 * n) map));
+  scratch-left = rw (← e);
+}
