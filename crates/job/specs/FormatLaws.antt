@@ -11,6 +11,7 @@ use lib.ListN.{length, getD, drop, length-append, length-drop}
 use lib.Seq.{drop-drop, getD-drop, drop-append-seam}
 use borrow.Author.Tests.{eq-eqb, ne-eqb, leb-true, le-leb}
 use Rattle.raster.specs.Tests.{and-right, cond-ind}
+use Rattle.job.specs.declared.Counted.{Counted}
 use Rattle.job.specs.Format.{
   Order,
   opening,
@@ -31,6 +32,7 @@ use Rattle.job.specs.Format.{
   ordersIn,
   isJob,
   ordersOf,
+  splitOf,
   encode,
   encodeAll,
 }
@@ -90,6 +92,25 @@ pub orders-end : (n : ℕ) (bytes : List ℕ) → length bytes ≡ 0 → ordersI
 unfolding ordersIn
 orders-end zero bytes e = refl
 orders-end (suc n) bytes e = rw e
+
+-- what splitting answered
+pub split-done : (job : List ℕ) {c : Counted} → c ≡ splitOf job → c .answer ≡ 0 → (isJob job ≡ true) × (c .records ≡ length (ordersOf job))
+unfolding splitOf
+split-done job {c} e done = go (isJob job) refl e
+  where
+    go : (t : Bool) → isJob job ≡ t → c ≡ cond t (record { records = length (ordersOf job); answer = 0 }) (record { records = 0; answer = 19 })
+        → (isJob job ≡ true) × (c .records ≡ length (ordersOf job))
+    go true p q = (p, ap (λ (d : Counted). d .records) q)
+    go false p q = absurd (omega (arith, done, ap (λ (d : Counted). d .answer) q))
+
+pub split-refused : (job : List ℕ) {c : Counted} → c ≡ splitOf job → (c .answer ≡ 0 → ⊥) → isJob job ≡ false
+unfolding splitOf
+split-refused job {c} e some = go (isJob job) refl e
+  where
+    go : (t : Bool) → isJob job ≡ t → c ≡ cond t (record { records = length (ordersOf job); answer = 0 }) (record { records = 0; answer = 19 })
+        → isJob job ≡ false
+    go true p q = absurd (some (ap (λ (d : Counted). d .answer) q))
+    go false p q = p
 
 -- ---- the record at the front, by its kind
 

@@ -182,8 +182,8 @@ pub record Running (job : List ℕ) (start : Bench) (empty : List ℕ) (i at end
   pub splitting : splits (length job - i) (drop at job) ≡ true
   pub bench : benchAfter (ordersIn (length job - i) (drop at job)) b ≡ benchAfter (ordersOf job) start
   pub text :
-    take end out ++ textFrom (i + 1) (answersOf (callsOf (ordersIn (length job - i) (drop at job)) b) (b .world))
-    ≡ reportOf (ordersOf job) start
+      take end out ++ textFrom (i + 1) (answersOf (callsOf (ordersIn (length job - i) (drop at job)) b) (b .world))
+      ≡ reportOf (ordersOf job) start
   pub back : drop end out ≡ drop end empty
   pub count : i + length (ordersIn (length job - i) (drop at job)) ≡ length (ordersOf job)
   pub begun : (i ≤ at) × (at ≤ length job)

@@ -47,18 +47,18 @@ module _ {A : Type 0} (n : ℕ) (l p : List A) (same : length p ≡ length (take
   part-lent = elim (decLe n (length l)) [
     | yes h ↦ take-at p (drop n l) n (same ∙ length-take-le n l h)
     | no h ↦
-      let b : length l ≤ n = omega arith in
-      let s : length p ≤ n = omega (arith, ap length (take-all n l b)) in
-      rw (drop-of-length-le l b, append-nil p) (take-all n p s)
+        let b : length l ≤ n = omega arith in
+        let s : length p ≤ n = omega (arith, ap length (take-all n l b)) in
+        rw (drop-of-length-le l b, append-nil p) (take-all n p s)
   ]
 
   pub part-behind : drop n (p ++ drop n l) ≡ drop n l
   part-behind = elim (decLe n (length l)) [
     | yes h ↦ drop-at p (drop n l) n (same ∙ length-take-le n l h)
     | no h ↦
-      let b : length l ≤ n = omega arith in
-      let s : length p ≤ n = omega (arith, ap length (take-all n l b)) in
-      rw (drop-of-length-le l b, append-nil p) (drop-of-length-le p s)
+        let b : length l ≤ n = omega arith in
+        let s : length p ≤ n = omega (arith, ap length (take-all n l b)) in
+        rw (drop-of-length-le l b, append-nil p) (drop-of-length-le p s)
   ]
 
 -- a part that was cut to what the list has came back as p
@@ -110,13 +110,13 @@ here b {size} is some = go (leb 4 (length b)) refl (eqb (word b 0) (sizeOf (word
     go false p u q e = absurd (some e)
     go true p false q e = absurd (some e)
     go true p true q e =
-      let same = eqb-true (word b 0) (sizeOf (word b 2)) (and-left (eqb (word b 0) (sizeOf (word b 2))) _ q) in
-      let fits = leb-true (word b 0) (length b) (and-right (eqb (word b 0) (sizeOf (word b 2))) _ q) in
-      record {
-        known = has-size (word b 2) (λ z. some (e ∙ same ∙ z));
-        header = leb-true 4 (length b) p;
-        size = omega (arith, same, fits);
-      }
+        let same = eqb-true (word b 0) (sizeOf (word b 2)) (and-left (eqb (word b 0) (sizeOf (word b 2))) _ q) in
+        let fits = leb-true (word b 0) (length b) (and-right (eqb (word b 0) (sizeOf (word b 2))) _ q) in
+        record {
+          known = has-size (word b 2) (λ z. some (e ∙ same ∙ z));
+          header = leb-true 4 (length b) p;
+          size = omega (arith, same, fits);
+        }
 
 -- one number further up
 pub beyond : (m : ℕ) {k : ℕ} → m ≤ k → (k ≡ m → ⊥) → m + 1 ≤ k
@@ -144,9 +144,17 @@ module _ {b : List ℕ} {s : Session} {n : ℕ} {sheet : List ℕ} (map scratch 
   open-obeyed {r} f = record {
     answer = rw (take-append-drop n sheet) (f .answer);
     left =
-      rw (take-append-drop n sheet, take-append-drop (2 * n) map, ← f .answer, f .session, f .lent, f .behind, f .pixels,
-        chosen (λ (k : ℕ). take (2 * k) map) (eqb (r .answer) 0) (word b 6 * word b 4) n,
-        chosen (λ (k : ℕ). drop (2 * k) map) (eqb (r .answer) 0) (word b 6 * word b 4) n);
+        rw (
+          take-append-drop n sheet,
+          take-append-drop (2 * n) map,
+          ← f .answer,
+          f .session,
+          f .lent,
+          f .behind,
+          f .pixels,
+          chosen (λ (k : ℕ). take (2 * k) map) (eqb (r .answer) 0) (word b 6 * word b 4) n,
+          chosen (λ (k : ℕ). drop (2 * k) map) (eqb (r .answer) 0) (word b 6 * word b 4) n,
+        );
   }
 
   pub paint-obeyed : {r : Reply} {left : List ℕ} → Filled 1 b s n sheet r left
@@ -173,7 +181,7 @@ module _ {b : List ℕ} {s : Session} {n : ℕ} {sheet : List ℕ} {map scratch 
       record {
         answer = rw (length-take-le n sheet within) (f .answer);
         left =
-          rw (length-take-le n sheet within, ← f .answer, f .session, f .lent-sheet, f .behind-sheet, f .lent-map, f .behind-map, f .left-scratch);
+            rw (length-take-le n sheet within, ← f .answer, f .session, f .lent-sheet, f .behind-sheet, f .lent-map, f .behind-map, f .left-scratch);
       }
 
   pub shrink-obeyed : {r : Reply} {cut : List ℕ} {left worn : List ℤ}
@@ -183,5 +191,5 @@ module _ {b : List ℕ} {s : Session} {n : ℕ} {sheet : List ℕ} {map scratch 
       record {
         answer = rw (length-take-le n sheet within) (f .answer);
         left =
-          rw (length-take-le n sheet within, ← f .answer, f .session, f .lent-sheet, f .behind-sheet, f .lent-map, f .behind-map, f .left-scratch);
+            rw (length-take-le n sheet within, ← f .answer, f .session, f .lent-sheet, f .behind-sheet, f .lent-map, f .behind-map, f .left-scratch);
       }

@@ -9,7 +9,7 @@ use lib.Dec.{eqb, leb, ltb}
 use lib.IntN.{ℤ}
 use lib.ListN.{length, take, drop, length-drop, take-append-drop}
 use lib.Seq.{length-take-le, drop-drop}
-use borrow.Author.Tests.{ltb-true, leb-true}
+use borrow.Author.Tests.{lt-ltb, le-ltb, ltb-true, leb-true}
 use Rattle.raster.specs.Pixels.{index}
 use Rattle.raster.specs.Refusal.{firstOf}
 use Rattle.raster.specs.Tests.{and-left, and-right, cond-ind}
@@ -31,12 +31,13 @@ use Rattle.session.specs.Calls.{
   readAnswer,
 }
 use Rattle.guarantee.specs.Board as calls
+use Rattle.guarantee.specs.Claims.{leftBy}
 use Rattle.guarantee.specs.World.{World, answer}
 use Rattle.job.specs.Format.{Order, sizeHere, orderHere, splits, ordersIn, isJob, ordersOf}
 use Rattle.job.specs.FormatLaws.{size-fits, splits-turn, orders-turn, splits-not, splits-end, orders-end}
 use Rattle.job.specs.Text.{line, textFrom, Put}
 use Rattle.job.specs.TextLaws.{nine-bytes}
-use Rattle.job.specs.Run.{Bench, benchOf, sheetOf, mapOf, callOf, callsOf, benchAfter, answersOf, reportOf, Here, Obeyed, Left, Running}
+use Rattle.job.specs.Run.{Bench, benchOf, sheetOf, mapOf, callOf, callsOf, benchAfter, answersOf, reportOf, stepped, roomFor, ranAnswer, Here, Obeyed, Left, Running}
 use Rattle.job.specs.RunLaws.{here}
 
 -- ---- no answer has more than two digits
@@ -131,8 +132,8 @@ module _ {job : List ℕ} {start : Bench} {empty : List ℕ} {i at end : ℕ} {b
           bench = rw (ob .left) (rw o at (r .bench));
           text = rw (p .front, append-assoc, ob .left, ob .answer) (rw o at (r .text));
           back =
-            let n : e ≡ end + length (line (i + 1) a) = p .ends in
-            p .back ∙ rw n (sym (drop-drop (length (line (i + 1) a)) end out) ∙ ap (drop (length (line (i + 1) a))) (r .back) ∙ drop-drop (length (line (i + 1) a)) end empty);
+              let n : e ≡ end + length (line (i + 1) a) = p .ends in
+              p .back ∙ rw n (sym (drop-drop (length (line (i + 1) a)) end out) ∙ ap (drop (length (line (i + 1) a))) (r .back) ∙ drop-drop (length (line (i + 1) a)) end empty);
           count = omega (arith, r .count, ap length o);
           begun = (omega (arith, r .begun .0, some), running-size is .1);
           short = omega (arith, p .ends, r .short);
@@ -163,3 +164,28 @@ buffers s n sheet map scratch e = record {
   map-left = rw (← e) (sym (take-append-drop (2 * n) map));
   scratch-left = rw (← e);
 }
+
+-- ---- the answer of a job, in each of the four cases
+
+module _ (job out : List ℕ) where
+  pub no-room-to-refuse : isJob job ≡ false → length out < 5 → ranAnswer job out ≡ 12
+  unfolding ranAnswer roomFor firstOf
+  no-room-to-refuse is h = rw (is, lt-ltb (length out) 5 h)
+
+  pub not-split : isJob job ≡ false → 5 ≤ length out → ranAnswer job out ≡ 19
+  unfolding ranAnswer roomFor firstOf
+  not-split is h = rw (is, le-ltb (length out) 5 h)
+
+  pub no-room-to-run : isJob job ≡ true → length out < 9 * length (ordersOf job) → ranAnswer job out ≡ 12
+  unfolding ranAnswer roomFor firstOf
+  no-room-to-run is h = rw (is, lt-ltb (length out) (9 * length (ordersOf job)) h)
+
+  pub run-whole : isJob job ≡ true → 9 * length (ordersOf job) ≤ length out → ranAnswer job out ≡ 0
+  unfolding ranAnswer roomFor firstOf
+  run-whole is h = rw (is, le-ltb (length out) (9 * length (ordersOf job)) h)
+
+-- the theorem: what the records leave is what the list of their calls leaves, of which demand 3 speaks
+pub calls-leave : (os : List Order) (b : Bench) → benchAfter os b .world ≡ leftBy (callsOf os b) (b .world)
+unfolding benchAfter callsOf
+calls-leave [] b = refl
+calls-leave (o ∷ rest) b = calls-leave rest (stepped o b)

@@ -26,6 +26,10 @@ textFrom i (a ∷ rest) = line i a ++ textFrom (i + 1) rest
 
 -- ---- writing text into a buffer
 
+-- a text stands at the front of a buffer, and the rest is as it was
+abbrev pub written : (text out : List ℕ) → List ℕ
+written text out = text ++ drop (length text) out
+
 -- a text was written at a place of a buffer: it ends at `end`, and the rest of the buffer is as it was
 pub record Put (out : List ℕ) (at : ℕ) (text : List ℕ) (end : ℕ) (after : List ℕ) : Type 0 where
   pub ends : end ≡ at + length text

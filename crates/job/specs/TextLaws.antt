@@ -10,10 +10,10 @@ use native.Mathlib.Numerals.{add-one}
 use borrow.Author.Tests.{lt-ltb, le-ltb}
 use mathlib.Core.Logic.{_↔_}
 use lib.Dec.{ltb}
-use lib.ListN.{length, take, drop, set, length-append}
+use lib.ListN.{length, take, drop, set, length-append, take-append-drop}
 use lib.Seq.{drop-drop, take-suc-set, drop-set-lt}
 use Rattle.raster.specs.Tests.{cond-ind}
-use Rattle.job.specs.Text.{digits, decimal, line, textFrom, Put}
+use Rattle.job.specs.Text.{digits, decimal, line, written, Put}
 
 -- ---- writing
 
@@ -33,9 +33,15 @@ put-more {out} {mid} {after} {at} {p} {e} {t} {u} a b = record {
   ends = omega (arith, a .ends, b .ends, length-append t u);
   front = b .front ∙ ap (λ (l : List ℕ). l ++ u) (a .front) ∙ append-assoc (take at out) t u;
   back =
-    let n : e ≡ p + length u = b .ends in
-    b .back ∙ rw n (sym (drop-drop (length u) p mid) ∙ ap (drop (length u)) (a .back) ∙ drop-drop (length u) p out);
+      let n : e ≡ p + length u = b .ends in
+      b .back ∙ rw n (sym (drop-drop (length u) p mid) ∙ ap (drop (length u)) (a .back) ∙ drop-drop (length u) p out);
 }
+
+-- at the front
+pub put-front : {out after text : List ℕ} {e : ℕ} → Put out 0 text e after → (e ≡ length text) × (after ≡ written text out)
+put-front {out} {after} {text} {e} p =
+    let n : e ≡ length text = omega (arith, p .ends) in
+    (n, sym (take-append-drop e after) ∙ rw (p .front, p .back, n))
 
 -- a number's digits: the last one, and those before it
 pub digits-one : (most n : ℕ) → (most ≡ 0 → ⊥) → n < 10 → digits most n ≡ (48 + n) ∷ []

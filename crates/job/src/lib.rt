@@ -1,4 +1,4 @@
-// The job file (document 01): splitting its bytes into records. No call asks anything of its caller: any bytes, any lengths.
+// The job file (document 01): splitting its bytes into records, and running them through a session. No public call asks anything of its caller: any bytes, any lengths.
 ghost use mathlib.Core.Path.{_≡_};
 ghost use mathlib.Core.Bool.{true};
 ghost use mathlib.Core.List.{[], _∷_};
@@ -8,9 +8,8 @@ ghost use Rattle.morphology.specs.Resize.{expanded, shrunk};
 ghost use Rattle.session.specs.State.{downAt};
 ghost use Rattle.session.specs.Calls.{onDone, placeAnswer, runAnswer, runSession};
 ghost use Rattle.job.specs.Format.{word, long, sizeOf, sizeHere, orderHere, isJob, ordersOf, splitOf};
-ghost use Rattle.job.specs.Text.{digits, line, Put};
-ghost use Rattle.job.specs.Run.{upto, benchOf, startOf, reportOf, benchAfter, Here, Obeyed, Left, Opened, Filled, Built, Resized};
-
+ghost use Rattle.job.specs.Text.{digits, line, written, Put};
+ghost use Rattle.job.specs.Run.{upto, benchOf, startOf, sheetOf, mapOf, reportOf, benchAfter, ranAnswer, printed, benchLeft, Here, Obeyed, Left, Opened, Filled, Built, Resized};
 use session::Reply;
 use session::Session;
 
@@ -18,6 +17,12 @@ use session::Session;
 #[repr(C)]
 pub struct Counted {
     pub records: u32,
+    pub answer: u32,
+}
+
+// How many bytes of text were written, and 0; 12 if the text may not fit; 19 if the job does not split.
+pub struct Ran {
+    pub written: usize,
     pub answer: u32,
 }
 
@@ -243,14 +248,27 @@ fn obey_erase(s: Session, n: usize, job: &[u8], at: usize, sheet: &mut [u8]) -> 
     s.erase(&mut sheet[..n], x, y, cols, rows)
 }
 
-fn obey_build(s: Session, n: usize, job: &[u8], at: usize, sheet: &[u8], map: &mut [i16], scratch: &mut [i16]) -> Reply
+fn obey_build(
+    s: Session,
+    n: usize,
+    job: &[u8],
+    at: usize,
+    sheet: &[u8],
+    map: &mut [i16],
+    scratch: &mut [i16],
+) -> Reply
     requires { ⌜ (at + 6 ≤ length (now job)) × (n ≤ length (now sheet)) ⌝ }
     ensures { λ r. ⌜ Built (drop at (now (job .entry))) s n (now (sheet .entry)) (now (map .entry)) (now (scratch .entry)) r (now (map .exit)) (now (scratch .exit)) ⌝ }
 {
     let engine = word_at(job, at, 4);
     let numbers = first_pairs(n, map.len());
     let worn = first(n, scratch.len());
-    s.build(&sheet[..n], &mut map[..numbers], &mut scratch[..worn], engine)
+    s.build(
+        &sheet[..n],
+        &mut map[..numbers],
+        &mut scratch[..worn],
+        engine,
+    )
 }
 
 fn obey_place(s: Session, n: usize, job: &[u8], at: usize, map: &[i16]) -> Reply
@@ -276,24 +294,50 @@ fn obey_run(s: Session, n: usize, job: &[u8], at: usize, map: &[i16]) -> Reply
     s.run(&map[..numbers], direction, count)
 }
 
-fn obey_expand(s: Session, n: usize, job: &[u8], at: usize, sheet: &mut [u8], map: &mut [i16], scratch: &mut [i16]) -> Reply
+fn obey_expand(
+    s: Session,
+    n: usize,
+    job: &[u8],
+    at: usize,
+    sheet: &mut [u8],
+    map: &mut [i16],
+    scratch: &mut [i16],
+) -> Reply
     requires { ⌜ (at + 8 ≤ length (now job)) × (n ≤ length (now sheet)) ⌝ }
     ensures { λ r. ⌜ Resized (drop at (now (job .entry))) s n (now (sheet .entry)) (now (map .entry)) (now (scratch .entry)) r (now (sheet .exit)) (now (map .exit)) (now (scratch .exit)) (λ t. expanded (s .width) (s .height) (long (drop at (now (job .entry))) 4) t) ⌝ }
 {
     let q = long_at(job, at, 4);
     let numbers = first_pairs(n, map.len());
     let worn = first(n, scratch.len());
-    s.expand(&mut sheet[..n], &mut map[..numbers], &mut scratch[..worn], q)
+    s.expand(
+        &mut sheet[..n],
+        &mut map[..numbers],
+        &mut scratch[..worn],
+        q,
+    )
 }
 
-fn obey_shrink(s: Session, n: usize, job: &[u8], at: usize, sheet: &mut [u8], map: &mut [i16], scratch: &mut [i16]) -> Reply
+fn obey_shrink(
+    s: Session,
+    n: usize,
+    job: &[u8],
+    at: usize,
+    sheet: &mut [u8],
+    map: &mut [i16],
+    scratch: &mut [i16],
+) -> Reply
     requires { ⌜ (at + 8 ≤ length (now job)) × (n ≤ length (now sheet)) ⌝ }
     ensures { λ r. ⌜ Resized (drop at (now (job .entry))) s n (now (sheet .entry)) (now (map .entry)) (now (scratch .entry)) r (now (sheet .exit)) (now (map .exit)) (now (scratch .exit)) (λ t. shrunk (s .width) (s .height) (long (drop at (now (job .entry))) 4) t) ⌝ }
 {
     let q = long_at(job, at, 4);
     let numbers = first_pairs(n, map.len());
     let worn = first(n, scratch.len());
-    s.shrink(&mut sheet[..n], &mut map[..numbers], &mut scratch[..worn], q)
+    s.shrink(
+        &mut sheet[..n],
+        &mut map[..numbers],
+        &mut scratch[..worn],
+        q,
+    )
 }
 
 // Any record but an opening.
@@ -351,10 +395,10 @@ fn obey(
     if word_at(job, at, 2) == 1 {
         return obey_open(s, n, job, at, sheet);
     }
-    let reply = act(s, n, job, at, sheet, map, scratch);
-    let session = reply.session;
+    let acted = act(s, n, job, at, sheet, map, scratch);
+    let session = acted.session;
     Done {
-        answer: reply.answer,
+        answer: acted.answer,
         pixels: n,
         session,
     }
@@ -387,4 +431,45 @@ fn run_all(
         s = session;
     }
     end
+}
+
+// Runs a job from a fresh session and writes the text of its answers. The job is split whole before anything runs. An opening is lent the first bytes and
+// numbers that its sheet needs of the sheet and map buffers, or all of shorter ones, whose length is then wrong. A text that may not fit runs nothing.
+pub fn run(
+    job: &[u8],
+    sheet: &mut [u8],
+    map: &mut [i16],
+    scratch: &mut [i16],
+    out: &mut [u8],
+) -> Ran
+    ensures { λ r. ⌜ r .answer ≡ ranAnswer (now (job .entry)) (now (out .entry)) ⌝ }
+    ensures { λ r. ⌜ r .written ≡ length (printed (now (job .entry)) (startOf (now (sheet .entry)) (now (map .entry)) (now (scratch .entry))) (now (out .entry))) ⌝ }
+    ensures { λ r. ⌜ now (out .exit) ≡ written (printed (now (job .entry)) (startOf (now (sheet .entry)) (now (map .entry)) (now (scratch .entry))) (now (out .entry))) (now (out .entry)) ⌝ }
+    ensures { λ r. ⌜ now (sheet .exit) ≡ sheetOf (benchLeft (now (job .entry)) (now (out .entry)) (startOf (now (sheet .entry)) (now (map .entry)) (now (scratch .entry)))) ⌝ }
+    ensures { λ r. ⌜ now (map .exit) ≡ mapOf (benchLeft (now (job .entry)) (now (out .entry)) (startOf (now (sheet .entry)) (now (map .entry)) (now (scratch .entry)))) ⌝ }
+    ensures { λ r. ⌜ now (scratch .exit) ≡ benchLeft (now (job .entry)) (now (out .entry)) (startOf (now (sheet .entry)) (now (map .entry)) (now (scratch .entry))) .scratch ⌝ }
+{
+    let counted = split(job);
+    if counted.answer != 0 {
+        if out.len() < 5 {
+            return Ran {
+                written: 0,
+                answer: 12,
+            };
+        }
+        return Ran {
+            written: put_line(out, 0, 0, 19),
+            answer: 19,
+        };
+    }
+    if out.len() < 9 * (counted.records as usize) {
+        return Ran {
+            written: 0,
+            answer: 12,
+        };
+    }
+    Ran {
+        written: run_all(job, sheet, map, scratch, out),
+        answer: 0,
+    }
 }

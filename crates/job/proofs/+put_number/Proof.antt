@@ -59,7 +59,7 @@ put-number-put-byte-requires : (t : ℕ) → put-number-lts.Need-put-byte-requir
   put-number-below t,
   put-number.Post,
 ) (put-number-at t) put-number.Post
-put-number-put-byte-requires t c κs = 
+put-number-put-byte-requires t c κs =
     let i = c .before .before in
     let a = i .before .before .before .args in
     omega (arith, ap length (digits-one (a .most) (a .n) (i .before .if1 .left) (i .if2 .taken)))
@@ -82,7 +82,7 @@ put-number-returns-2 : (t : ℕ) → put-number-lts.Need-returns-2 (
   put-number-below t,
   put-number.Post,
 ) (put-number-at t) put-number.Post
-put-number-returns-2 t c = 
+put-number-returns-2 t c =
     let p = c .before .before in
     let i = p .before .before .before in
     let a = i .before .before .before .args in
@@ -106,7 +106,7 @@ put-number-put-number-requires : (t : ℕ) → put-number-lts.Need-put-number-re
   put-number-below t,
   put-number.Post,
 ) (put-number-at t) put-number.Post
-put-number-put-number-requires t c κs = 
+put-number-put-number-requires t c κs =
     let i = c .before in
     let a = i .before .before .before .args in
     let d = digits-more (a .most) (a .n) (i .before .if1 .left) (omega arith) in
@@ -130,7 +130,7 @@ put-number-put-byte-requires-2 : (t : ℕ) → put-number-lts.Need-put-byte-requ
   put-number-below t,
   put-number.Post,
 ) (put-number-at t) put-number.Post
-put-number-put-byte-requires-2 t c κs = 
+put-number-put-byte-requires-2 t c κs =
     let p = c .before .before .before .before in
     let i = p .before .before in
     let a = i .before .before .before .args in
@@ -155,7 +155,7 @@ put-number-returns-3 : (t : ℕ) → put-number-lts.Need-returns-3 (
   put-number-below t,
   put-number.Post,
 ) (put-number-at t) put-number.Post
-put-number-returns-3 t c = 
+put-number-returns-3 t c =
     let b = c .before .before in
     let p = b .before .before .before .before .before in
     let i = p .before .before in

@@ -32,16 +32,16 @@ returns c =
     let area : p ≡ upto (h .word-at2 .result * w .word-at .result) (length sheet) = rw (← f .before .area .ensures) (f .first .ensures .0) in
     let granted = sym (o .open-sheet .ensures .0) ∙ zero in
     let pixels : p ≡ h .word-at2 .result * w .word-at .result =
-      sym (length-take-le p sheet (f .first .ensures .1)) ∙ open-length (take p sheet) (w .word-at .result) (h .word-at2 .result) granted in
+    sym (length-take-le p sheet (f .first .ensures .1)) ∙ open-length (take p sheet) (w .word-at .result) (h .word-at2 .result) granted in
     record {
       answer = rw (← w .word-at .ensures, ← h .word-at2 .ensures, ← upto-take (h .word-at2 .result * w .word-at .result) sheet area) (sym granted);
       session = rw (← w .word-at .ensures, ← h .word-at2 .ensures) (rw zero at (o .open-sheet .ensures .1 .0));
       pixels = rw (← w .word-at .ensures, ← h .word-at2 .ensures) pixels;
       lent =
-        rw (part-lent p sheet last kept, ← w .word-at .ensures, ← h .word-at2 .ensures, ← upto-take (h .word-at2 .result * w .word-at .result) sheet area)
-        (rw zero at (o .open-sheet .ensures .1 .1));
+          rw (part-lent p sheet last kept, ← w .word-at .ensures, ← h .word-at2 .ensures, ← upto-take (h .word-at2 .result * w .word-at .result) sheet area)
+          (rw zero at (o .open-sheet .ensures .1 .1));
       behind =
-        rw (part-behind p sheet last kept, ← w .word-at .ensures, ← h .word-at2 .ensures) (ap (λ (k : ℕ). drop k sheet) pixels);
+          rw (part-behind p sheet last kept, ← w .word-at .ensures, ← h .word-at2 .ensures) (ap (λ (k : ℕ). drop k sheet) pixels);
       within = omega (arith, length-front sheet last p kept, f .first .ensures .1);
     }
 
@@ -57,11 +57,11 @@ returns-2 c =
     let no = ne-eqb (o .open-sheet .result .answer) 0 (c .if1 .left) in
     let area : p ≡ upto (h .word-at2 .result * w .word-at .result) (length sheet) = rw (← f .before .area .ensures) (f .first .ensures .0) in
     let back : o .open-sheet .last .1 .0 ++ drop p sheet ≡ sheet =
-      rw (rw no at (o .open-sheet .ensures .1 .1)) (take-append-drop p sheet) in
+    rw (rw no at (o .open-sheet .ensures .1 .1)) (take-append-drop p sheet) in
     record {
       answer =
-        rw (← w .word-at .ensures, ← h .word-at2 .ensures, ← upto-take (h .word-at2 .result * w .word-at .result) sheet area)
-        (o .open-sheet .ensures .0);
+          rw (← w .word-at .ensures, ← h .word-at2 .ensures, ← upto-take (h .word-at2 .result * w .word-at .result) sheet area)
+          (o .open-sheet .ensures .0);
       session = rw (← w .word-at .ensures, ← h .word-at2 .ensures) (o .open-sheet .ensures .1 .0);
       pixels = rw no;
       lent = rw (no, back);

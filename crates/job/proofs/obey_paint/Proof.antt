@@ -21,12 +21,17 @@ returns c =
     let a = x .before .before .before .args in
     record {
       answer =
-        rw (← x .word-at .ensures, ← y .word-at2 .ensures, ← cols .word-at3 .ensures, ← rows .word-at4 .ensures) (p .paint .ensures .0);
+          rw (← x .word-at .ensures, ← y .word-at2 .ensures, ← cols .word-at3 .ensures, ← rows .word-at4 .ensures) (p .paint .ensures .0);
       session = p .paint .ensures .1 .0;
       lent =
-        rw (part-lent (a .n) (a .sheet .now) (p .paint .last .1 .0) (p .paint .kept .1 .0),
-          ← x .word-at .ensures, ← y .word-at2 .ensures, ← cols .word-at3 .ensures, ← rows .word-at4 .ensures)
-        (p .paint .ensures .1 .1);
+          rw (
+            part-lent (a .n) (a .sheet .now) (p .paint .last .1 .0) (p .paint .kept .1 .0),
+            ← x .word-at .ensures,
+            ← y .word-at2 .ensures,
+            ← cols .word-at3 .ensures,
+            ← rows .word-at4 .ensures,
+          )
+          (p .paint .ensures .1 .1);
       behind = part-behind (a .n) (a .sheet .now) (p .paint .last .1 .0) (p .paint .kept .1 .0);
     }
 

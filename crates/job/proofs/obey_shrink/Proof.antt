@@ -33,17 +33,17 @@ returns c =
     let worn = f .first .ensures .0 in
     record {
       answer =
-        rw (← q .long-at .ensures, ← upto-take (2 * a .n) (a .map .now) numbers, ← upto-take (a .n) (a .scratch .now) worn) (p .shrink .ensures .0);
+          rw (← q .long-at .ensures, ← upto-take (2 * a .n) (a .map .now) numbers, ← upto-take (a .n) (a .scratch .now) worn) (p .shrink .ensures .0);
       session = p .shrink .ensures .1 .0;
       lent-sheet =
-        rw (part-lent (a .n) (a .sheet .now) (p .shrink .last .1 .0) (p .shrink .kept .1 .0), ← q .long-at .ensures) (p .shrink .ensures .1 .1 .0);
+          rw (part-lent (a .n) (a .sheet .now) (p .shrink .last .1 .0) (p .shrink .kept .1 .0), ← q .long-at .ensures) (p .shrink .ensures .1 .1 .0);
       behind-sheet = part-behind (a .n) (a .sheet .now) (p .shrink .last .1 .0) (p .shrink .kept .1 .0);
       lent-map =
-        rw (upto-lent (2 * a .n) (a .map .now) (p .shrink .last .1 .1 .0) numbers (p .shrink .kept .1 .1 .0), ← upto-take (2 * a .n) (a .map .now) numbers)
-        (p .shrink .ensures .1 .1 .1 .0);
+          rw (upto-lent (2 * a .n) (a .map .now) (p .shrink .last .1 .1 .0) numbers (p .shrink .kept .1 .1 .0), ← upto-take (2 * a .n) (a .map .now) numbers)
+          (p .shrink .ensures .1 .1 .1 .0);
       behind-map = upto-behind (2 * a .n) (a .map .now) (p .shrink .last .1 .1 .0) numbers (p .shrink .kept .1 .1 .0);
       left-scratch =
-        rw (← upto-take (a .n) (a .scratch .now) worn, ← upto-drop (a .n) (a .scratch .now) worn, p .shrink .ensures .1 .1 .1 .1);
+          rw (← upto-take (a .n) (a .scratch .now) worn, ← upto-drop (a .n) (a .scratch .now) worn, p .shrink .ensures .1 .1 .1 .1);
     }
 
 pub obey-shrink-spec : {M : Type 1} → statement M

@@ -29,15 +29,16 @@ put-byte-requires-2 c κs =
     let b = m .before .before .before .before in
     let n = b .before .before .before .before in
     let a = n .before .before .before .args in
-    omega
-    (arith,
+    omega (
+      arith,
       line-length (a .number) (a .answer),
       n .put-number .ensures .ends,
       n .put-number .kept .0,
       b .put-byte .ensures .ends,
       b .put-byte .kept .0,
       m .put-number2 .ensures .ends,
-      m .put-number2 .kept .0)
+      m .put-number2 .kept .0,
+    )
 
 returns : tie.Need-returns
 unfolding line

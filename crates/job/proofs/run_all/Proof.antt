@@ -72,12 +72,19 @@ loop-again c =
     let p = z .before .before .before in
     let o = p .before .before .before .before .before .before in
     let l = o .before .before .before .before .before in
-    let more = o .before .before .before .before .loop-test .taken in
-    (running-turn (l .loop .inv .0) more (z .size-at .ensures) (o .obey .ensures .0) (p .put-line .ensures) (nine o),
-      (o .obey .ensures .1,
-        (o .obey .kept .1 .1 .1 .1 .0 ∙ l .loop .inv .1 .1 .0,
-          (o .obey .kept .1 .1 .1 .1 .1 .0 ∙ l .loop .inv .1 .1 .1 .0,
-            (o .obey .kept .1 .1 .1 .1 .1 .1 .0 ∙ l .loop .inv .1 .1 .1 .1 .0, p .put-line .kept .0 ∙ l .loop .inv .1 .1 .1 .1 .1)))))
+    let more = o .before .before .before .before .loop-test .taken in (
+      running-turn (l .loop .inv .0) more (z .size-at .ensures) (o .obey .ensures .0) (p .put-line .ensures) (nine o),
+      (
+        o .obey .ensures .1,
+        (
+          o .obey .kept .1 .1 .1 .1 .0 ∙ l .loop .inv .1 .1 .0,
+          (
+            o .obey .kept .1 .1 .1 .1 .1 .0 ∙ l .loop .inv .1 .1 .1 .0,
+            (o .obey .kept .1 .1 .1 .1 .1 .1 .0 ∙ l .loop .inv .1 .1 .1 .1 .0, p .put-line .kept .0 ∙ l .loop .inv .1 .1 .1 .1 .1),
+          ),
+        ),
+      ),
+    )
 
 returns : tie.Need-returns Inv-loop μ-loop
 returns c =
