@@ -3,25 +3,20 @@
 -- Assumes nothing.
 use mathlib.Core.List.{List, [], _∷_, _++_}
 use mathlib.Core.Option.{some}
-use mathlib.Core.Bool.{true, cond, not}
-use mathlib.Core.Path.{_≡_}
-use Prim.Native.Nat.{ℕ, _+_, _-_, _*_, _≤_}
-use lib.Dec.{eqb, leb, ltb}
+use mathlib.Core.Bool.{cond, not}
+use Prim.Native.Nat.{ℕ, _+_, _*_}
+use lib.Dec.{eqb, ltb}
 use lib.IntN.{ℤ}
 use lib.ListN.{length, take, drop}
 use Rattle.exact.specs.Nearest.{cleared}
 use Rattle.session.specs.declared.Session.{Session}
-use Rattle.session.specs.declared.Reply.{Reply}
-use Rattle.session.specs.Calls.{onDone, openAnswer, fillAnswer, filledBy, buildAnswer, buildSession, buildMap, buildScratch, resizeAnswer}
-use Rattle.session.specs.State.{fresh, openedAs, stale}
-use Rattle.raster.specs.Map.{unmapped}
+use Rattle.session.specs.Calls.{onDone, buildScratch}
+use Rattle.session.specs.State.{fresh}
 use Rattle.raster.specs.Refusal.{firstOf}
-use Rattle.raster.specs.Sheet.{bare}
 use Rattle.guarantee.specs.Board as calls
 use Rattle.guarantee.specs.World.{World, world, answer, after}
-use Rattle.job.specs.Format.{Order, opening, paint, erase, build, place, run, lift, expand, shrink, word, long, sizeOf, splits, ordersIn, isJob, ordersOf}
+use Rattle.job.specs.Format.{Order, opening, paint, erase, build, place, run, lift, expand, shrink, isJob, ordersOf}
 use Rattle.job.specs.Text.{line, textFrom}
-use Rattle.job.specs.declared.Done.{Done}
 
 -- what a job is run on: the world of its list of calls, the sheet and map buffers behind the parts that are lent, and the scratch buffer
 pub record Bench : Type 0 where
@@ -157,74 +152,3 @@ printed job b out = cond (eqb (ranAnswer job out) 12) [] (textOf job b)
 -- what is left in the buffers
 unfoldable pub benchLeft : (job out : List ℕ) → Bench → Bench
 benchLeft job out b = onDone (ranAnswer job out) (benchAfter (ordersOf job) b) b
-
--- the buffers are those of the bench
-pub record Left (b : Bench) (sheet : List ℕ) (map scratch : List ℤ) : Type 0 where
-  pub sheet-left : sheet ≡ sheetOf b
-  pub map-left : map ≡ mapOf b
-  pub scratch-left : scratch ≡ b .scratch
-
--- ---- obeying a record
-
--- a whole record of a known kind stands at the front of the bytes
-pub record Here (b : List ℕ) : Type 0 where
-  pub known : (1 ≤ word b 2) × (word b 2 ≤ 9)
-  pub header : 4 ≤ length b
-  pub size : sizeOf (word b 2) ≤ length b
-
--- it was answered with a, and left the bench as `next`
-pub record Obeyed (o : Order) (b : Bench) (a : ℕ) (next : Bench) : Type 0 where
-  pub answer : a ≡ answerOf o b
-  pub left : next ≡ stepped o b
-
--- so many records in: those that are left, from here, do what all of them do from the start
-pub record Running (job : List ℕ) (start : Bench) (empty : List ℕ) (i at end : ℕ) (b : Bench) (out : List ℕ) : Type 0 where
-  pub splitting : splits (length job - i) (drop at job) ≡ true
-  pub bench : benchAfter (ordersIn (length job - i) (drop at job)) b ≡ benchAfter (ordersOf job) start
-  pub text :
-      take end out ++ textFrom (i + 1) (answersOf (callsOf (ordersIn (length job - i) (drop at job)) b) (b .world))
-      ≡ reportOf (ordersOf job) start
-  pub back : drop end out ≡ drop end empty
-  pub count : i + length (ordersIn (length job - i) (drop at job)) ≡ length (ordersOf job)
-  pub begun : (i ≤ at) × (at ≤ length job)
-  pub short : end ≤ 9 * i
-
--- ---- what the functions that obey one kind of record leave, beside b, the record's bytes
-
--- the first n of a list of k elements
-abbrev pub upto : (n k : ℕ) → ℕ
-upto n k = cond (leb n k) n k
-
--- 1, opening, in the first w × h bytes of the sheet buffer
-pub record Opened (b : List ℕ) (s : Session) (n : ℕ) (sheet : List ℕ) (r : Done) (left : List ℕ) : Type 0 where
-  pub answer : r .answer ≡ openAnswer (take (word b 6 * word b 4) sheet) (word b 4) (word b 6)
-  pub session : r .session ≡ onDone (r .answer) (openedAs (word b 4) (word b 6)) s
-  pub pixels : r .pixels ≡ onDone (r .answer) (word b 6 * word b 4) n
-  pub lent : take (r .pixels) left ≡ onDone (r .answer) (bare (take (word b 6 * word b 4) sheet)) (take n sheet)
-  pub behind : drop (r .pixels) left ≡ onDone (r .answer) (drop (word b 6 * word b 4) sheet) (drop n sheet)
-  pub within : r .pixels ≤ length left
-
--- 2 and 3, paint and erase, in the first n bytes of the sheet buffer
-pub record Filled (v : ℕ) (b : List ℕ) (s : Session) (n : ℕ) (sheet : List ℕ) (r : Reply) (left : List ℕ) : Type 0 where
-  pub answer : r .answer ≡ fillAnswer s (take n sheet) (word b 4) (word b 6) (word b 8) (word b 10)
-  pub session : r .session ≡ onDone (r .answer) (stale s) s
-  pub lent : take n left ≡ onDone (r .answer) (filledBy s (word b 4) (word b 6) (word b 8) (word b 10) v (take n sheet)) (take n sheet)
-  pub behind : drop n left ≡ drop n sheet
-
--- 4, build, in the first 2 × n numbers of the map buffer and n of the scratch buffer
-pub record Built (b : List ℕ) (s : Session) (n : ℕ) (sheet : List ℕ) (map scratch : List ℤ) (r : Reply) (left worn : List ℤ) : Type 0 where
-  pub answer : r .answer ≡ buildAnswer s (take n sheet) (take (2 * n) map) (take n scratch) (word b 4)
-  pub session : r .session ≡ buildSession s (word b 4) (r .answer)
-  pub lent-map : take (2 * n) left ≡ buildMap s (take n sheet) (take (2 * n) map) (word b 4) (r .answer)
-  pub behind-map : drop (2 * n) left ≡ drop (2 * n) map
-  pub left-scratch : worn ≡ buildScratch s (take n scratch) (word b 4) (r .answer) ++ drop n scratch
-
--- 8 and 9, expand and shrink: the sheet is then `resized`
-pub record Resized (b : List ℕ) (s : Session) (n : ℕ) (sheet : List ℕ) (map scratch : List ℤ) (r : Reply) (cut : List ℕ) (left worn : List ℤ) (resized : List ℕ → List ℕ) : Type 0 where
-  pub answer : r .answer ≡ resizeAnswer s (take n sheet) (take (2 * n) map) (take n scratch) (long b 4)
-  pub session : r .session ≡ onDone (r .answer) (stale s) s
-  pub lent-sheet : take n cut ≡ onDone (r .answer) (resized (take n sheet)) (take n sheet)
-  pub behind-sheet : drop n cut ≡ drop n sheet
-  pub lent-map : take (2 * n) left ≡ onDone (r .answer) (unmapped (take (2 * n) map)) (take (2 * n) map)
-  pub behind-map : drop (2 * n) left ≡ drop (2 * n) map
-  pub left-scratch : worn ≡ onDone (r .answer) (cleared (s .height * s .width) (take n scratch)) (take n scratch) ++ drop n scratch

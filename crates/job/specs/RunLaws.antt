@@ -1,195 +1,177 @@
--- Laws of running a job: parts of buffers that are lent and come back.
+-- Laws of a job that is running: how large an answer gets, and the loop over the records: its start, a turn, its end.
 -- Assumes nothing.
 use mathlib.Core.Path.{_≡_, refl, sym, ap, _∙_}
-use mathlib.Core.List.{List, [], _∷_, _++_, append-nil}
-use mathlib.Core.Bool.{Bool, true, false, cond, not, _&&_}
-use Prim.Native.Nat.{ℕ, _+_, _*_, _≤_, _<_}
-use native.Mathlib.Decide.{decLe}
+use mathlib.Core.Bool.{Bool, true, false, not, _&&_, false≢true}
+use mathlib.Core.List.{List, [], _∷_, append-assoc, append-nil}
+use Prim.Native.Nat.{ℕ, _+_, _-_, _*_, _<_, _≤_}
 use native.Mathlib.Omega.{arith}
+use lib.Dec.{eqb, leb, ltb}
 use lib.IntN.{ℤ}
-use lib.ListN.{length, take, drop, length-drop, drop-of-length-le, take-append-drop}
-use lib.Seq.{take-all, take-at, drop-at, length-take-le, take-length, drop-length}
-use lib.Dec.{eqb, leb}
-use borrow.Author.Tests.{le-leb, lt-leb, ne-eqb, eqb-true, leb-true, not-false}
-use Rattle.raster.specs.RefusalLaws.{passed}
+use lib.ListN.{length, take, drop, length-drop, take-append-drop}
+use lib.Seq.{length-take-le, drop-drop}
+use borrow.Author.Tests.{lt-ltb, le-ltb, ltb-true, leb-true}
+use Rattle.raster.specs.Pixels.{index}
+use Rattle.raster.specs.Refusal.{firstOf}
 use Rattle.raster.specs.Tests.{and-left, and-right, cond-ind}
-use Rattle.session.specs.State.{side}
-use Rattle.session.specs.Calls.{openAnswer}
 use Rattle.session.specs.declared.Session.{Session}
-use Rattle.session.specs.declared.Reply.{Reply}
-use Rattle.morphology.specs.Resize.{expanded, shrunk}
-use Rattle.job.specs.declared.Done.{Done}
-use Rattle.job.specs.Format.{opening, paint, erase, build, place, run, lift, expand, shrink, word, long, sizeOf, sizeHere}
-use Rattle.job.specs.Run.{upto, benchOf, Here, Obeyed, Opened, Filled, Built, Resized}
+use Rattle.session.specs.Calls.{lastOf, scanOf, passesAt, blocked, openAnswer, fillAnswer, buildRefusal, buildAnswer, placeRefusal, placeAnswer, runRefusal, runAnswer, resizeAnswer, readAnswer}
+use Rattle.guarantee.specs.Board as calls
+use Rattle.guarantee.specs.Claims.{leftBy}
+use Rattle.guarantee.specs.World.{World, answer}
+use Rattle.job.specs.Format.{Order, sizeHere, orderHere, ordersIn, isJob, ordersOf}
+use Rattle.job.specs.FormatLaws.{size-fits, splits-turn, orders-turn, splits-not, orders-end}
+use Rattle.job.specs.Text.{line, textFrom, Put}
+use Rattle.job.specs.TextLaws.{nine-bytes}
+use Rattle.job.specs.Run.{Bench, benchOf, callOf, callsOf, benchAfter, answersOf, reportOf, stepped, roomFor, ranAnswer}
+use Rattle.job.specs.Obey.{Here, Obeyed, Left, Running}
+use Rattle.job.specs.ObeyLaws.{here}
 
--- the first n elements, or all of them
-pub upto-take : {A : Type 0} (n : ℕ) (l : List A) {r : ℕ} → r ≡ upto n (length l) → take r l ≡ take n l
-upto-take n l e = elim (decLe n (length l)) [
-  | yes h ↦ rw (e, le-leb n (length l) h)
-  | no h ↦ rw (e, lt-leb n (length l) (omega arith), take-all n l (omega arith), take-length)
-]
+-- ---- no answer has more than two digits
 
-pub upto-drop : {A : Type 0} (n : ℕ) (l : List A) {r : ℕ} → r ≡ upto n (length l) → drop r l ≡ drop n l
-upto-drop n l e = elim (decLe n (length l)) [
-  | yes h ↦ rw (e, le-leb n (length l) h)
-  | no h ↦ let b : length l ≤ n = omega arith in rw (e, lt-leb n (length l) (omega arith), drop-of-length-le l b, drop-length)
-]
+small : List (Bool × ℕ) → Bool
+small [] = true
+small ((when, number) ∷ rest) = ltb number 100 && small rest
 
-pub upto-within : (n k : ℕ) {r : ℕ} → r ≡ upto n k → r ≤ k
-upto-within n k e = elim (decLe n k) [
-  | yes h ↦ rw (e, le-leb n k h) h
-  | no h ↦ rw (e, lt-leb n k (omega arith)) (omega arith)
-]
+first-small : (table : List (Bool × ℕ)) → small table ≡ true → firstOf table < 100
+unfolding small firstOf
+first-small [] e = omega arith
+first-small ((when, number) ∷ rest) e =
+    cond-ind (λ (n : ℕ). n < 100) when
+    (λ _. ltb-true number 100 (and-left (ltb number 100) _ e))
+    (λ _. first-small rest (and-right (ltb number 100) _ e))
 
--- a part of n elements came back as p
-module _ {A : Type 0} (n : ℕ) (l p : List A) (same : length p ≡ length (take n l)) where
-  pub part-lent : take n (p ++ drop n l) ≡ p
-  part-lent = elim (decLe n (length l)) [
-    | yes h ↦ take-at p (drop n l) n (same ∙ length-take-le n l h)
-    | no h ↦
-        let b : length l ≤ n = omega arith in
-        let s : length p ≤ n = omega (arith, ap length (take-all n l b)) in
-        rw (drop-of-length-le l b, append-nil p) (take-all n p s)
-  ]
+last-small : (r : ℕ) (when : Bool) (number : ℕ) → r < 100 → number < 100 → lastOf r when number < 100
+last-small r when number f g =
+    cond-ind (λ (n : ℕ). n < 100) (eqb r 0)
+    (λ _. cond-ind (λ (n : ℕ). n < 100) when (λ _. g) (λ _. omega arith))
+    (λ _. f)
 
-  pub part-behind : drop n (p ++ drop n l) ≡ drop n l
-  part-behind = elim (decLe n (length l)) [
-    | yes h ↦ drop-at p (drop n l) n (same ∙ length-take-le n l h)
-    | no h ↦
-        let b : length l ≤ n = omega arith in
-        let s : length p ≤ n = omega (arith, ap length (take-all n l b)) in
-        rw (drop-of-length-le l b, append-nil p) (drop-of-length-le p s)
-  ]
+pub two-digits : (c : calls.Call) (w : World) → answer c w < 100
+unfolding small openAnswer fillAnswer buildRefusal buildAnswer placeRefusal placeAnswer runRefusal runAnswer resizeAnswer readAnswer
+two-digits (calls.opening a b o) w = first-small _ refl
+two-digits (calls.paint x y c r) w = first-small _ refl
+two-digits (calls.erase x y c r) w = first-small _ refl
+two-digits (calls.build e s) w =
+    last-small (buildRefusal (w .session) (w .sheet) (w .map) s e) (not (eqb e 1) && scanOf (w .session) (w .sheet) e .over) 35 (first-small _ refl) (omega arith)
+two-digits (calls.place x y q) w =
+    last-small (placeRefusal (w .session) (w .map) x y q) (not (passesAt (w .session .engine) (w .map) (index (w .session .width) x y) q)) 34
+    (first-small _ refl) (omega arith)
+two-digits (calls.run d n) w =
+    last-small (runRefusal (w .session) (w .map) d n) (blocked (w .session) (w .map) d n) 34 (first-small _ refl) (omega arith)
+two-digits calls.lift w = omega arith
+two-digits (calls.expand q s) w = first-small _ refl
+two-digits (calls.shrink q s) w = first-small _ refl
+two-digits (calls.skeleton o) w = first-small _ refl
+two-digits (calls.rebuild m o) w = first-small _ refl
+two-digits calls.aside w = omega arith
 
--- a part that was cut to what the list has came back as p
-module _ {A : Type 0} (n : ℕ) (l p : List A) {r : ℕ} (e : r ≡ upto n (length l)) (same : length p ≡ length (take r l)) where
-  pub upto-lent : take n (p ++ drop r l) ≡ p
-  upto-lent = rw (upto-drop n l e) (part-lent n l p (same ∙ ap length (upto-take n l e)))
+-- ---- the loop
 
-  pub upto-behind : drop n (p ++ drop r l) ≡ drop n l
-  upto-behind = rw (upto-drop n l e) (part-behind n l p (same ∙ ap length (upto-take n l e)))
+pub job-limit : (job : List ℕ) → isJob job ≡ true → length job ≤ 65536
+unfolding isJob
+job-limit job is = leb-true (length job) 65536 (and-left (leb (length job) 65536) _ is)
 
--- an opening that is done was lent a byte a pixel
-pub open-length : (sheet : List ℕ) (w h : ℕ) → openAnswer sheet w h ≡ 0 → length sheet ≡ h * w
-unfolding openAnswer
-open-length sheet w h e =
-    let t = passed (not (side w && side h)) 11 _ (omega arith) e .1 in
-    eqb-true (length sheet) (h * w) (not-false _ (passed (not (eqb (length sheet) (h * w))) 12 _ (omega arith) t .0))
+pub running-start : (job : List ℕ) (start : Bench) (out : List ℕ) → isJob job ≡ true → Running job start out 0 0 0 start out
+unfolding isJob ordersOf reportOf
+running-start job start out is =
+    let z : length job - 0 ≡ length job = omega arith in record {
+      splitting = rw z (and-right (leb (length job) 65536) _ is);
+      bench = rw z;
+      text = rw z;
+      back = refl;
+      count = rw z (omega arith);
+      begun = (omega arith, omega arith);
+      short = omega arith;
+    }
 
--- ---- a whole record of a known kind
+module _ {job : List ℕ} {start : Bench} {empty : List ℕ} {i at end : ℕ} {b : Bench} {out : List ℕ} (r : Running job start empty i at end b out) where
+  module _ (more : at < length job) where
+    some-size : {size : ℕ} → size ≡ sizeHere (drop at job) → size ≡ 0 → ⊥
+    some-size is z = false≢true (sym (splits-not job i at is z more (r .begun .0)) ∙ r .splitting)
 
--- a kind outside 1 to 9 has no length
-no-size : (k : ℕ) → ((1 ≤ k) × (k ≤ 9) → ⊥) → sizeOf k ≡ 0
-unfolding sizeOf
-no-size k range =
-    let two : eqb k 2 ≡ false = ne-eqb k 2 (λ e. range (omega arith, omega arith)) in
-    let three : eqb k 3 ≡ false = ne-eqb k 3 (λ e. range (omega arith, omega arith)) in
-    let four : eqb k 4 ≡ false = ne-eqb k 4 (λ e. range (omega arith, omega arith)) in
-    let five : eqb k 5 ≡ false = ne-eqb k 5 (λ e. range (omega arith, omega arith)) in
-    let seven : eqb k 7 ≡ false = ne-eqb k 7 (λ e. range (omega arith, omega arith)) in
-    rw (two, three, four, five, seven)
-    (cond-ind (λ (n : ℕ). n ≡ 0) (leb 1 k && leb k 9)
-    (λ e. absurd (range (leb-true 1 k (and-left (leb 1 k) _ e), leb-true k 9 (and-right (leb 1 k) _ e))))
-    (λ _. refl))
+    -- the record ends within the job
+    pub running-size : {size : ℕ} → size ≡ sizeHere (drop at job) → (1 ≤ size) × (at + size ≤ length job)
+    running-size is = (omega (arith, some-size is), omega (arith, size-fits (drop at job), length-drop at job, is))
 
-has-size : (k : ℕ) → (sizeOf k ≡ 0 → ⊥) → (1 ≤ k) × (k ≤ 9)
-has-size k some = elim (decLe 1 k) [
-  | yes l ↦ elim (decLe k 9) [
-    | yes h ↦ (l, h)
-    | no h ↦ absurd (some (no-size k (λ r. absurd (omega (arith, r .1)))))
-  ]
-  | no l ↦ absurd (some (no-size k (λ r. absurd (omega (arith, r .0)))))
-]
+    -- its line has at most nine bytes
+    pub running-line : {o : Order} {a : ℕ} {next : Bench} → isJob job ≡ true → Obeyed o b a next → length (line (i + 1) a) ≤ 9
+    running-line {o} {a} is ob =
+        nine-bytes (i + 1) a (omega (arith, job-limit job is, r .begun .0)) (omega (arith, ob .answer, two-digits (callOf o b) (b .world)))
 
-pub here : (b : List ℕ) {size : ℕ} → size ≡ sizeHere b → (size ≡ 0 → ⊥) → Here b
-unfolding sizeHere
-here b {size} is some = go (leb 4 (length b)) refl (eqb (word b 0) (sizeOf (word b 2)) && leb (word b 0) (length b)) refl is
-  where
-    go : (t : Bool) → leb 4 (length b) ≡ t → (u : Bool) → eqb (word b 0) (sizeOf (word b 2)) && leb (word b 0) (length b) ≡ u
-        → size ≡ cond t (cond u (word b 0) 0) 0 → Here b
-    go false p u q e = absurd (some e)
-    go true p false q e = absurd (some e)
-    go true p true q e =
-        let same = eqb-true (word b 0) (sizeOf (word b 2)) (and-left (eqb (word b 0) (sizeOf (word b 2))) _ q) in
-        let fits = leb-true (word b 0) (length b) (and-right (eqb (word b 0) (sizeOf (word b 2))) _ q) in
-        record {
-          known = has-size (word b 2) (λ z. some (e ∙ same ∙ z));
-          header = leb-true 4 (length b) p;
-          size = omega (arith, same, fits);
+    pub running-here : Here (drop at job)
+    running-here = here (drop at job) refl (some-size refl)
+
+    -- the next line has its room
+    pub running-room : {text : ℕ} → 9 * length (ordersOf job) ≤ length out → text ≤ 9 → end + text ≤ length out
+    running-room fits short =
+        let o = orders-turn job i at refl (some-size refl) more (r .begun .0) in
+        omega (arith, r .count, ap length o, r .short, fits, short)
+
+    pub running-turn : {size a e : ℕ} {next : Bench} {written : List ℕ} → size ≡ sizeHere (drop at job)
+        → Obeyed (orderHere (drop at job)) b a next → Put out end (line (i + 1) a) e written → length (line (i + 1) a) ≤ 9
+        → Running job start empty (i + 1) (at + size) e next written
+    unfolding callsOf benchAfter answersOf textFrom
+    running-turn {size} {a} {e} {next} {written} is ob p short =
+        let some = some-size is in
+        let o = orders-turn job i at is some more (r .begun .0) in record {
+          splitting = sym (splits-turn job i at is some more (r .begun .0)) ∙ r .splitting;
+          bench = rw (ob .left) (rw o at (r .bench));
+          text = rw (p .front, append-assoc, ob .left, ob .answer) (rw o at (r .text));
+          back =
+              let n : e ≡ end + length (line (i + 1) a) = p .ends in
+              p .back ∙ rw n (sym (drop-drop (length (line (i + 1) a)) end out) ∙ ap (drop (length (line (i + 1) a))) (r .back) ∙ drop-drop (length (line (i + 1) a)) end empty);
+          count = omega (arith, r .count, ap length o);
+          begun = (omega (arith, r .begun .0, some), running-size is .1);
+          short = omega (arith, p .ends, r .short);
         }
 
--- one number further up
-pub beyond : (m : ℕ) {k : ℕ} → m ≤ k → (k ≡ m → ⊥) → m + 1 ≤ k
-beyond m {k} l n = elim (decLe (m + 1) k) [
-  | yes h ↦ h
-  | no h ↦ absurd (n (omega arith))
-]
+  module _ (done : length job ≤ at) where
+    none-left : ordersIn (length job - i) (drop at job) ≡ []
+    none-left = orders-end (length job - i) (drop at job) (omega (arith, length-drop at job))
 
--- a record of kind j has its bytes
-pub room : (job : List ℕ) (at j : ℕ) {k : ℕ} → Here (drop at job) → k ≡ word (drop at job) 2 → k ≡ j → at + sizeOf j ≤ length job
-room job at j h is e =
-    let same : word (drop at job) 2 ≡ j = sym is ∙ e in
-    omega (arith, length-drop at job, h .header, rw same at (h .size))
+    pub running-end : 9 * length (ordersOf job) ≤ length out → Put empty 0 (reportOf (ordersOf job) start) end out
+    unfolding callsOf answersOf textFrom
+    running-end fits =
+        let t : take end out ≡ reportOf (ordersOf job) start = sym (append-nil (take end out)) ∙ (rw none-left at (r .text)) in
+        let within : end ≤ length out = omega (arith, r .short, r .count, fits) in record {
+          ends = omega (arith, length-take-le end out within, ap length t);
+          front = t;
+          back = r .back;
+        }
 
--- ---- obeying each kind is what the definition says
+    pub running-left : b ≡ benchAfter (ordersOf job) start
+    unfolding benchAfter
+    running-left = rw none-left at (r .bench)
 
--- what is made of the number chosen, chosen
-chosen : {A : Type 0} (f : ℕ → A) (t : Bool) (x y : ℕ) → f (cond t x y) ≡ cond t (f x) (f y)
-chosen f true x y = refl
-chosen f false x y = refl
+-- the buffers that a session works on
+pub buffers : {t : Bench} (s : Session) (n : ℕ) (sheet : List ℕ) (map scratch : List ℤ) → benchOf s n sheet map scratch ≡ t → Left t sheet map scratch
+buffers s n sheet map scratch e = record {
+  sheet-left = rw (← e) (sym (take-append-drop n sheet));
+  map-left = rw (← e) (sym (take-append-drop (2 * n) map));
+  scratch-left = rw (← e);
+}
 
-module _ {b : List ℕ} {s : Session} {n : ℕ} {sheet : List ℕ} (map scratch : List ℤ) where
-  pub open-obeyed : {r : Done} {left : List ℕ} → Opened b s n sheet r left
-      → Obeyed (opening (word b 4) (word b 6)) (benchOf s n sheet map scratch) (r .answer) (benchOf (r .session) (r .pixels) left map scratch)
-  open-obeyed {r} f = record {
-    answer = rw (take-append-drop n sheet) (f .answer);
-    left =
-        rw (
-          take-append-drop n sheet,
-          take-append-drop (2 * n) map,
-          ← f .answer,
-          f .session,
-          f .lent,
-          f .behind,
-          f .pixels,
-          chosen (λ (k : ℕ). take (2 * k) map) (eqb (r .answer) 0) (word b 6 * word b 4) n,
-          chosen (λ (k : ℕ). drop (2 * k) map) (eqb (r .answer) 0) (word b 6 * word b 4) n,
-        );
-  }
+-- ---- the answer of a job, in each of the four cases
 
-  pub paint-obeyed : {r : Reply} {left : List ℕ} → Filled 1 b s n sheet r left
-      → Obeyed (paint (word b 4) (word b 6) (word b 8) (word b 10)) (benchOf s n sheet map scratch) (r .answer) (benchOf (r .session) n left map scratch)
-  paint-obeyed f = record { answer = f .answer; left = rw (← f .answer, f .session, f .lent, f .behind) }
+module _ (job out : List ℕ) where
+  pub no-room-to-refuse : isJob job ≡ false → length out < 5 → ranAnswer job out ≡ 12
+  unfolding ranAnswer roomFor firstOf
+  no-room-to-refuse is h = rw (is, lt-ltb (length out) 5 h)
 
-  pub erase-obeyed : {r : Reply} {left : List ℕ} → Filled 0 b s n sheet r left
-      → Obeyed (erase (word b 4) (word b 6) (word b 8) (word b 10)) (benchOf s n sheet map scratch) (r .answer) (benchOf (r .session) n left map scratch)
-  erase-obeyed f = record { answer = f .answer; left = rw (← f .answer, f .session, f .lent, f .behind) }
+  pub not-split : isJob job ≡ false → 5 ≤ length out → ranAnswer job out ≡ 19
+  unfolding ranAnswer roomFor firstOf
+  not-split is h = rw (is, le-ltb (length out) 5 h)
 
-module _ {b : List ℕ} {s : Session} {n : ℕ} {sheet : List ℕ} {map scratch : List ℤ} (within : n ≤ length sheet) where
-  pub build-obeyed : {r : Reply} {left worn : List ℤ} → Built b s n sheet map scratch r left worn
-      → Obeyed (build (word b 4)) (benchOf s n sheet map scratch) (r .answer) (benchOf (r .session) n sheet left worn)
-  build-obeyed f =
-      record {
-        answer = rw (length-take-le n sheet within) (f .answer);
-        left = rw (length-take-le n sheet within, ← f .answer, f .session, f .lent-map, f .behind-map, f .left-scratch);
-      }
+  pub no-room-to-run : isJob job ≡ true → length out < 9 * length (ordersOf job) → ranAnswer job out ≡ 12
+  unfolding ranAnswer roomFor firstOf
+  no-room-to-run is h = rw (is, lt-ltb (length out) (9 * length (ordersOf job)) h)
 
-  pub expand-obeyed : {r : Reply} {cut : List ℕ} {left worn : List ℤ}
-      → Resized b s n sheet map scratch r cut left worn (λ t. expanded (s .width) (s .height) (long b 4) t)
-      → Obeyed (expand (long b 4)) (benchOf s n sheet map scratch) (r .answer) (benchOf (r .session) n cut left worn)
-  expand-obeyed f =
-      record {
-        answer = rw (length-take-le n sheet within) (f .answer);
-        left =
-            rw (length-take-le n sheet within, ← f .answer, f .session, f .lent-sheet, f .behind-sheet, f .lent-map, f .behind-map, f .left-scratch);
-      }
+  pub run-whole : isJob job ≡ true → 9 * length (ordersOf job) ≤ length out → ranAnswer job out ≡ 0
+  unfolding ranAnswer roomFor firstOf
+  run-whole is h = rw (is, le-ltb (length out) (9 * length (ordersOf job)) h)
 
-  pub shrink-obeyed : {r : Reply} {cut : List ℕ} {left worn : List ℤ}
-      → Resized b s n sheet map scratch r cut left worn (λ t. shrunk (s .width) (s .height) (long b 4) t)
-      → Obeyed (shrink (long b 4)) (benchOf s n sheet map scratch) (r .answer) (benchOf (r .session) n cut left worn)
-  shrink-obeyed f =
-      record {
-        answer = rw (length-take-le n sheet within) (f .answer);
-        left =
-            rw (length-take-le n sheet within, ← f .answer, f .session, f .lent-sheet, f .behind-sheet, f .lent-map, f .behind-map, f .left-scratch);
-      }
+-- the theorem: what the records leave is what the list of their calls leaves, of which demand 3 speaks
+pub calls-leave : (os : List Order) (b : Bench) → benchAfter os b .world ≡ leftBy (callsOf os b) (b .world)
+unfolding benchAfter callsOf
+calls-leave [] b = refl
+calls-leave (o ∷ rest) b = calls-leave rest (stepped o b)

@@ -9,7 +9,8 @@ ghost use Rattle.session.specs.State.{downAt};
 ghost use Rattle.session.specs.Calls.{onDone, placeAnswer, runAnswer, runSession};
 ghost use Rattle.job.specs.Format.{word, long, sizeOf, sizeHere, orderHere, isJob, ordersOf, splitOf};
 ghost use Rattle.job.specs.Text.{digits, line, written, Put};
-ghost use Rattle.job.specs.Run.{upto, benchOf, startOf, sheetOf, mapOf, reportOf, benchAfter, ranAnswer, printed, benchLeft, Here, Obeyed, Left, Opened, Filled, Built, Resized};
+ghost use Rattle.job.specs.Run.{benchOf, startOf, sheetOf, mapOf, reportOf, benchAfter, ranAnswer, printed, benchLeft};
+ghost use Rattle.job.specs.Obey.{upto, Here, Obeyed, Left, Opened, Filled, Built, Resized};
 use session::Reply;
 use session::Session;
 

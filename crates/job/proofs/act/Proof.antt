@@ -8,7 +8,7 @@ use lib.ListN.{drop, length-drop}
 use borrow.Author.Needs.{needs}
 use Rattle.job.specs.Format.{sizeOf}
 use Rattle.job.specs.FormatLaws.{is-paint, is-erase, is-build, is-place, is-run, is-lift, is-expand, is-shrink}
-use Rattle.job.specs.RunLaws.{beyond, room, paint-obeyed, erase-obeyed, build-obeyed, expand-obeyed, shrink-obeyed}
+use Rattle.job.specs.ObeyLaws.{beyond, room, paint-obeyed, erase-obeyed, build-obeyed, expand-obeyed, shrink-obeyed}
 use Rattle.job.proofs.act.Statement.{statement}
 use Rattle.job.proofs.act.Tie as tie
 

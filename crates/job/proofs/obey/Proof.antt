@@ -6,7 +6,7 @@ use lib.ListN.{drop, length-drop}
 use borrow.Author.Needs.{needs}
 use Rattle.job.specs.Format.{sizeOf}
 use Rattle.job.specs.FormatLaws.{is-opening}
-use Rattle.job.specs.RunLaws.{room, open-obeyed}
+use Rattle.job.specs.ObeyLaws.{room, open-obeyed}
 use Rattle.job.proofs.obey.Statement.{statement}
 use Rattle.job.proofs.obey.Tie as tie
 

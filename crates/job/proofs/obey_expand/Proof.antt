@@ -4,7 +4,7 @@ use mathlib.Core.Path.{sym}
 use Prim.Native.Nat.{_*_}
 use borrow.Author.Needs.{needs}
 use lib.Seq.{length-take-le}
-use Rattle.job.specs.RunLaws.{part-lent, part-behind, upto-take, upto-drop, upto-lent, upto-behind}
+use Rattle.job.specs.ObeyLaws.{part-lent, part-behind, upto-take, upto-drop, upto-lent, upto-behind}
 use Rattle.job.proofs.obey_expand.Statement.{statement}
 use Rattle.job.proofs.obey_expand.Tie as tie
 

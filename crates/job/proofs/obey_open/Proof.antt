@@ -1,6 +1,6 @@
 -- `job::obey_open` meets its contract: the session opens the lent part; a sheet that is opened has a byte a pixel, so that it was lent all that it needs.
 -- Assumes nothing.
-use mathlib.Core.Path.{_≡_, refl, sym, ap, _∙_}
+use mathlib.Core.Path.{_≡_, sym, ap, _∙_}
 use mathlib.Core.List.{_++_}
 use Prim.Native.Nat.{ℕ, _*_}
 use native.Mathlib.Omega.{arith}
@@ -8,8 +8,8 @@ use lib.ListN.{length, take, drop, take-append-drop}
 use lib.Seq.{length-take-le, length-front}
 use borrow.Author.Needs.{needs}
 use borrow.Author.Tests.{ne-eqb}
-use Rattle.job.specs.Run.{upto}
-use Rattle.job.specs.RunLaws.{part-lent, part-behind, upto-take, open-length}
+use Rattle.job.specs.Obey.{upto}
+use Rattle.job.specs.ObeyLaws.{part-lent, part-behind, upto-take, open-length}
 use Rattle.job.proofs.obey_open.Statement.{statement}
 use Rattle.job.proofs.obey_open.Tie as tie
 

@@ -3,7 +3,7 @@
 use mathlib.Core.Path.{sym}
 use borrow.Author.Needs.{needs}
 use lib.Seq.{length-take-le}
-use Rattle.job.specs.RunLaws.{part-lent, part-behind}
+use Rattle.job.specs.ObeyLaws.{part-lent, part-behind}
 use Rattle.job.proofs.obey_paint.Statement.{statement}
 use Rattle.job.proofs.obey_paint.Tie as tie
 

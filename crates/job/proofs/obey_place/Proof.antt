@@ -4,7 +4,7 @@ use mathlib.Core.Path.{sym}
 use Prim.Native.Nat.{_*_}
 use borrow.Author.Needs.{needs}
 use lib.Seq.{length-take-le}
-use Rattle.job.specs.RunLaws.{upto-take}
+use Rattle.job.specs.ObeyLaws.{upto-take}
 use Rattle.job.proofs.obey_place.Statement.{statement}
 use Rattle.job.proofs.obey_place.Tie as tie
 

@@ -1,15 +1,13 @@
 -- `job::run` meets its contract: the four cases of its answer; the text is put_line's or run_all's.
 -- Assumes nothing.
-use mathlib.Core.Path.{refl, sym, _∙_}
-use Prim.Native.Nat.{_*_}
+use mathlib.Core.Path.{refl}
 use native.Mathlib.Omega.{arith}
-use lib.ListN.{length}
 use borrow.Author.Needs.{needs}
 use Rattle.job.specs.FormatLaws.{split-done, split-refused}
 use Rattle.job.specs.Text.{digits, line}
 use Rattle.job.specs.TextLaws.{put-front}
 use Rattle.job.specs.Run.{textOf, printed, benchLeft}
-use Rattle.job.specs.RunningLaws.{no-room-to-refuse, not-split, no-room-to-run, run-whole}
+use Rattle.job.specs.RunLaws.{no-room-to-refuse, not-split, no-room-to-run, run-whole}
 use Rattle.job.proofs.run.Statement.{statement}
 use Rattle.job.proofs.run.Tie as tie
 

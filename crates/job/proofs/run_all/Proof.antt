@@ -1,24 +1,14 @@
 -- `job::run_all` meets its contract: what the records that are left do from here is what all of them do from the start.
 -- Assumes nothing.
 use mathlib.Core.Path.{_≡_, refl, _∙_}
-use Prim.Native.Nat.{_+_, _-_, _<_, _≤_}
+use Prim.Native.Nat.{_+_, _-_, _≤_}
 use native.Mathlib.Omega.{arith}
-use lib.ListN.{length, drop}
+use lib.ListN.{length}
 use borrow.Author.Needs.{needs}
 use Rattle.job.specs.Text.{line}
-use Rattle.job.specs.Run.{benchOf, startOf, Running}
-use Rattle.job.specs.RunningLaws.{
-  job-limit,
-  running-start,
-  running-size,
-  running-line,
-  running-here,
-  running-room,
-  running-turn,
-  running-end,
-  running-left,
-  buffers,
-}
+use Rattle.job.specs.Run.{benchOf, startOf}
+use Rattle.job.specs.Obey.{Running}
+use Rattle.job.specs.RunLaws.{job-limit, running-start, running-size, running-line, running-here, running-room, running-turn, running-end, running-left, buffers}
 use Rattle.job.proofs.run_all.Statement.{statement}
 use Rattle.job.proofs.run_all.Tie as tie
 

@@ -1,0 +1,196 @@
+-- Laws of obeying a record: parts of buffers that are lent and come back, and each kind of record.
+-- Assumes nothing.
+use mathlib.Core.Path.{_≡_, refl, sym, ap, _∙_}
+use mathlib.Core.List.{List, _++_, append-nil}
+use mathlib.Core.Bool.{Bool, true, false, cond, not, _&&_}
+use Prim.Native.Nat.{ℕ, _+_, _*_, _≤_}
+use native.Mathlib.Decide.{decLe}
+use native.Mathlib.Omega.{arith}
+use lib.IntN.{ℤ}
+use lib.ListN.{length, take, drop, length-drop, drop-of-length-le, take-append-drop}
+use lib.Seq.{take-all, take-at, drop-at, length-take-le, take-length, drop-length}
+use lib.Dec.{eqb, leb}
+use borrow.Author.Tests.{le-leb, lt-leb, ne-eqb, eqb-true, leb-true, not-false}
+use Rattle.raster.specs.RefusalLaws.{passed}
+use Rattle.raster.specs.Tests.{and-left, and-right, cond-ind}
+use Rattle.session.specs.State.{side}
+use Rattle.session.specs.Calls.{openAnswer}
+use Rattle.session.specs.declared.Session.{Session}
+use Rattle.session.specs.declared.Reply.{Reply}
+use Rattle.morphology.specs.Resize.{expanded, shrunk}
+use Rattle.job.specs.declared.Done.{Done}
+use Rattle.job.specs.Format.{opening, paint, erase, build, expand, shrink, word, long, sizeOf, sizeHere}
+use Rattle.job.specs.Run.{benchOf}
+use Rattle.job.specs.Obey.{upto, Here, Obeyed, Opened, Filled, Built, Resized}
+
+-- the first n elements, or all of them
+pub upto-take : {A : Type 0} (n : ℕ) (l : List A) {r : ℕ} → r ≡ upto n (length l) → take r l ≡ take n l
+upto-take n l e = elim (decLe n (length l)) [
+  | yes h ↦ rw (e, le-leb n (length l) h)
+  | no h ↦ rw (e, lt-leb n (length l) (omega arith), take-all n l (omega arith), take-length)
+]
+
+pub upto-drop : {A : Type 0} (n : ℕ) (l : List A) {r : ℕ} → r ≡ upto n (length l) → drop r l ≡ drop n l
+upto-drop n l e = elim (decLe n (length l)) [
+  | yes h ↦ rw (e, le-leb n (length l) h)
+  | no h ↦ let b : length l ≤ n = omega arith in rw (e, lt-leb n (length l) (omega arith), drop-of-length-le l b, drop-length)
+]
+
+pub upto-within : (n k : ℕ) {r : ℕ} → r ≡ upto n k → r ≤ k
+upto-within n k e = elim (decLe n k) [
+  | yes h ↦ rw (e, le-leb n k h) h
+  | no h ↦ rw (e, lt-leb n k (omega arith)) (omega arith)
+]
+
+-- a part of n elements came back as p
+module _ {A : Type 0} (n : ℕ) (l p : List A) (same : length p ≡ length (take n l)) where
+  pub part-lent : take n (p ++ drop n l) ≡ p
+  part-lent = elim (decLe n (length l)) [
+    | yes h ↦ take-at p (drop n l) n (same ∙ length-take-le n l h)
+    | no h ↦
+        let b : length l ≤ n = omega arith in
+        let s : length p ≤ n = omega (arith, ap length (take-all n l b)) in
+        rw (drop-of-length-le l b, append-nil p) (take-all n p s)
+  ]
+
+  pub part-behind : drop n (p ++ drop n l) ≡ drop n l
+  part-behind = elim (decLe n (length l)) [
+    | yes h ↦ drop-at p (drop n l) n (same ∙ length-take-le n l h)
+    | no h ↦
+        let b : length l ≤ n = omega arith in
+        let s : length p ≤ n = omega (arith, ap length (take-all n l b)) in
+        rw (drop-of-length-le l b, append-nil p) (drop-of-length-le p s)
+  ]
+
+-- a part that was cut to what the list has came back as p
+module _ {A : Type 0} (n : ℕ) (l p : List A) {r : ℕ} (e : r ≡ upto n (length l)) (same : length p ≡ length (take r l)) where
+  pub upto-lent : take n (p ++ drop r l) ≡ p
+  upto-lent = rw (upto-drop n l e) (part-lent n l p (same ∙ ap length (upto-take n l e)))
+
+  pub upto-behind : drop n (p ++ drop r l) ≡ drop n l
+  upto-behind = rw (upto-drop n l e) (part-behind n l p (same ∙ ap length (upto-take n l e)))
+
+-- an opening that is done was lent a byte a pixel
+pub open-length : (sheet : List ℕ) (w h : ℕ) → openAnswer sheet w h ≡ 0 → length sheet ≡ h * w
+unfolding openAnswer
+open-length sheet w h e =
+    let t = passed (not (side w && side h)) 11 _ (omega arith) e .1 in
+    eqb-true (length sheet) (h * w) (not-false _ (passed (not (eqb (length sheet) (h * w))) 12 _ (omega arith) t .0))
+
+-- ---- a whole record of a known kind
+
+-- a kind outside 1 to 9 has no length
+no-size : (k : ℕ) → ((1 ≤ k) × (k ≤ 9) → ⊥) → sizeOf k ≡ 0
+unfolding sizeOf
+no-size k range =
+    let two : eqb k 2 ≡ false = ne-eqb k 2 (λ e. range (omega arith, omega arith)) in
+    let three : eqb k 3 ≡ false = ne-eqb k 3 (λ e. range (omega arith, omega arith)) in
+    let four : eqb k 4 ≡ false = ne-eqb k 4 (λ e. range (omega arith, omega arith)) in
+    let five : eqb k 5 ≡ false = ne-eqb k 5 (λ e. range (omega arith, omega arith)) in
+    let seven : eqb k 7 ≡ false = ne-eqb k 7 (λ e. range (omega arith, omega arith)) in
+    rw (two, three, four, five, seven)
+    (cond-ind (λ (n : ℕ). n ≡ 0) (leb 1 k && leb k 9)
+    (λ e. absurd (range (leb-true 1 k (and-left (leb 1 k) _ e), leb-true k 9 (and-right (leb 1 k) _ e))))
+    (λ _. refl))
+
+has-size : (k : ℕ) → (sizeOf k ≡ 0 → ⊥) → (1 ≤ k) × (k ≤ 9)
+has-size k some = elim (decLe 1 k) [
+  | yes l ↦ elim (decLe k 9) [
+    | yes h ↦ (l, h)
+    | no h ↦ absurd (some (no-size k (λ r. absurd (omega (arith, r .1)))))
+  ]
+  | no l ↦ absurd (some (no-size k (λ r. absurd (omega (arith, r .0)))))
+]
+
+pub here : (b : List ℕ) {size : ℕ} → size ≡ sizeHere b → (size ≡ 0 → ⊥) → Here b
+unfolding sizeHere
+here b {size} is some = go (leb 4 (length b)) refl (eqb (word b 0) (sizeOf (word b 2)) && leb (word b 0) (length b)) refl is
+  where
+    go : (t : Bool) → leb 4 (length b) ≡ t → (u : Bool) → eqb (word b 0) (sizeOf (word b 2)) && leb (word b 0) (length b) ≡ u
+        → size ≡ cond t (cond u (word b 0) 0) 0 → Here b
+    go false p u q e = absurd (some e)
+    go true p false q e = absurd (some e)
+    go true p true q e =
+        let same = eqb-true (word b 0) (sizeOf (word b 2)) (and-left (eqb (word b 0) (sizeOf (word b 2))) _ q) in
+        let fits = leb-true (word b 0) (length b) (and-right (eqb (word b 0) (sizeOf (word b 2))) _ q) in
+        record {
+          known = has-size (word b 2) (λ z. some (e ∙ same ∙ z));
+          header = leb-true 4 (length b) p;
+          size = omega (arith, same, fits);
+        }
+
+-- one number further up
+pub beyond : (m : ℕ) {k : ℕ} → m ≤ k → (k ≡ m → ⊥) → m + 1 ≤ k
+beyond m {k} l n = elim (decLe (m + 1) k) [
+  | yes h ↦ h
+  | no h ↦ absurd (n (omega arith))
+]
+
+-- a record of kind j has its bytes
+pub room : (job : List ℕ) (at j : ℕ) {k : ℕ} → Here (drop at job) → k ≡ word (drop at job) 2 → k ≡ j → at + sizeOf j ≤ length job
+room job at j h is e =
+    let same : word (drop at job) 2 ≡ j = sym is ∙ e in
+    omega (arith, length-drop at job, h .header, rw same at (h .size))
+
+-- ---- obeying each kind is what the definition says
+
+-- what is made of the number chosen, chosen
+chosen : {A : Type 0} (f : ℕ → A) (t : Bool) (x y : ℕ) → f (cond t x y) ≡ cond t (f x) (f y)
+chosen f true x y = refl
+chosen f false x y = refl
+
+module _ {b : List ℕ} {s : Session} {n : ℕ} {sheet : List ℕ} (map scratch : List ℤ) where
+  pub open-obeyed : {r : Done} {left : List ℕ} → Opened b s n sheet r left
+      → Obeyed (opening (word b 4) (word b 6)) (benchOf s n sheet map scratch) (r .answer) (benchOf (r .session) (r .pixels) left map scratch)
+  open-obeyed {r} f = record {
+    answer = rw (take-append-drop n sheet) (f .answer);
+    left =
+        rw (
+          take-append-drop n sheet,
+          take-append-drop (2 * n) map,
+          ← f .answer,
+          f .session,
+          f .lent,
+          f .behind,
+          f .pixels,
+          chosen (λ (k : ℕ). take (2 * k) map) (eqb (r .answer) 0) (word b 6 * word b 4) n,
+          chosen (λ (k : ℕ). drop (2 * k) map) (eqb (r .answer) 0) (word b 6 * word b 4) n,
+        );
+  }
+
+  pub paint-obeyed : {r : Reply} {left : List ℕ} → Filled 1 b s n sheet r left
+      → Obeyed (paint (word b 4) (word b 6) (word b 8) (word b 10)) (benchOf s n sheet map scratch) (r .answer) (benchOf (r .session) n left map scratch)
+  paint-obeyed f = record { answer = f .answer; left = rw (← f .answer, f .session, f .lent, f .behind) }
+
+  pub erase-obeyed : {r : Reply} {left : List ℕ} → Filled 0 b s n sheet r left
+      → Obeyed (erase (word b 4) (word b 6) (word b 8) (word b 10)) (benchOf s n sheet map scratch) (r .answer) (benchOf (r .session) n left map scratch)
+  erase-obeyed f = record { answer = f .answer; left = rw (← f .answer, f .session, f .lent, f .behind) }
+
+module _ {b : List ℕ} {s : Session} {n : ℕ} {sheet : List ℕ} {map scratch : List ℤ} (within : n ≤ length sheet) where
+  pub build-obeyed : {r : Reply} {left worn : List ℤ} → Built b s n sheet map scratch r left worn
+      → Obeyed (build (word b 4)) (benchOf s n sheet map scratch) (r .answer) (benchOf (r .session) n sheet left worn)
+  build-obeyed f =
+      record {
+        answer = rw (length-take-le n sheet within) (f .answer);
+        left = rw (length-take-le n sheet within, ← f .answer, f .session, f .lent-map, f .behind-map, f .left-scratch);
+      }
+
+  pub expand-obeyed : {r : Reply} {cut : List ℕ} {left worn : List ℤ}
+      → Resized b s n sheet map scratch r cut left worn (λ t. expanded (s .width) (s .height) (long b 4) t)
+      → Obeyed (expand (long b 4)) (benchOf s n sheet map scratch) (r .answer) (benchOf (r .session) n cut left worn)
+  expand-obeyed f =
+      record {
+        answer = rw (length-take-le n sheet within) (f .answer);
+        left =
+            rw (length-take-le n sheet within, ← f .answer, f .session, f .lent-sheet, f .behind-sheet, f .lent-map, f .behind-map, f .left-scratch);
+      }
+
+  pub shrink-obeyed : {r : Reply} {cut : List ℕ} {left worn : List ℤ}
+      → Resized b s n sheet map scratch r cut left worn (λ t. shrunk (s .width) (s .height) (long b 4) t)
+      → Obeyed (shrink (long b 4)) (benchOf s n sheet map scratch) (r .answer) (benchOf (r .session) n cut left worn)
+  shrink-obeyed f =
+      record {
+        answer = rw (length-take-le n sheet within) (f .answer);
+        left =
+            rw (length-take-le n sheet within, ← f .answer, f .session, f .lent-sheet, f .behind-sheet, f .lent-map, f .behind-map, f .left-scratch);
+      }
