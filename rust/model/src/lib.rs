@@ -2,6 +2,7 @@
 
 pub mod boards;
 pub mod exact;
+pub mod job;
 pub mod maps;
 pub mod nearest;
 pub mod random;
