@@ -5,6 +5,7 @@
 
 use model::boards::Board;
 use model::random::Random;
+pub use soak::lent::Lent;
 
 /// What a map or scratch may hold before: anything, and the numbers with a meaning more often.
 pub fn old(random: &mut Random) -> i16 {
@@ -18,35 +19,6 @@ pub fn old(random: &mut Random) -> i16 {
 pub fn size([dx, dy]: [i16; 2]) -> u64 {
     let (dx, dy) = (i64::from(dx), i64::from(dy));
     (dx * dx + dy * dy) as u64
-}
-
-/// A slice to be lent to the library, with margins around it that must stay as they are.
-pub struct Lent<T> {
-    margin: usize,
-    before: Vec<T>,
-    after: Vec<T>,
-}
-
-impl<T: Copy + PartialEq> Lent<T> {
-    /// A slice with the given length. It and the margins hold what `any` gives.
-    pub fn new(length: usize, margin: usize, any: impl FnMut() -> T) -> Self {
-        let before: Vec<T> = std::iter::repeat_with(any).take(length + 2 * margin).collect();
-        Lent { margin, after: before.clone(), before }
-    }
-
-    /// The slice.
-    pub fn slice(&mut self) -> &mut [T] {
-        let end = self.after.len() - self.margin;
-        &mut self.after[self.margin..end]
-    }
-
-    /// The first `length` of the slice, which a call may write. All else must be as it was.
-    pub fn written(&self, length: usize, what: &str, board: &Board) -> &[T] {
-        let (from, to) = (self.margin, self.margin + length);
-        assert!(self.after[..from] == self.before[..from], "written before the {what}: {board:?}");
-        assert!(self.after[to..] == self.before[to..], "written after the {what}: {board:?}");
-        &self.after[from..to]
-    }
 }
 
 /// The map that a call writes, and its answer. It is lent the board's sheet, which it must not write, and a map that holds anything.

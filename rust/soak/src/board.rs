@@ -1,0 +1,122 @@
+//! The plain board of document 01, and what the lists of calls promise of it. It is fed each call's numbers and its answer alone, and all
+//! distances are by brute force.
+
+use crate::calls::Call;
+use abi::session::Session;
+use std::collections::BTreeSet;
+use std::fmt::Debug;
+
+/// A pixel, which may be off the sheet.
+type Pixel = (i64, i64);
+
+/// Sides, copper, engine and the lowered cutter.
+#[derive(Debug, Default)]
+pub struct Board {
+    w: u16,
+    h: u16,
+    copper: BTreeSet<Pixel>,
+    engine: u16,
+    cutter: Option<(Pixel, u32)>,
+}
+
+fn apart((x, y): Pixel, (column, row): Pixel) -> u64 {
+    ((x - column).pow(2) + (y - row).pow(2)) as u64
+}
+
+/// The pixels of a rectangle.
+fn rectangle(corner: [u16; 2], sides: [u16; 2]) -> impl Iterator<Item = Pixel> {
+    let ([x, y], [w, h]) = (corner.map(i64::from), sides.map(i64::from));
+    (y..y + h).flat_map(move |row| (x..x + w).map(move |column| (column, row)))
+}
+
+impl Board {
+    fn pixels(&self) -> impl Iterator<Item = Pixel> {
+        rectangle([0, 0], [self.w, self.h])
+    }
+
+    /// Whether some copper is within q of a pixel.
+    fn near(&self, pixel: Pixel, q: u64) -> bool {
+        self.copper.iter().any(|&copper| apart(copper, pixel) <= q)
+    }
+
+    /// The pixels that a place or run brings the cutter to if it is done, and their q.
+    fn tested(&self, call: Call) -> Vec<(Pixel, u32)> {
+        match call {
+            Call::Place { x, y, q } => vec![((x.into(), y.into()), q)],
+            Call::Run { direction, count } => {
+                let Some(((x, y), q)) = self.cutter else { return Vec::new() };
+                // clockwise from east: right in 7, 0 and 1, left in 3, 4 and 5, down in 1, 2 and 3, up in 5, 6 and 7
+                let right = i64::from([7, 0, 1].contains(&direction)) - i64::from([3, 4, 5].contains(&direction));
+                let down = i64::from([1, 2, 3].contains(&direction)) - i64::from([5, 6, 7].contains(&direction));
+                (1..=i64::from(count)).map(|step| ((x + step * right, y + step * down), q)).collect()
+            }
+            _ => Vec::new(),
+        }
+    }
+
+    /// Feeds the board a call that was done.
+    fn done(&mut self, call: Call) {
+        match call {
+            Call::Open { w, h } => *self = Board { w, h, ..Board::default() },
+            Call::Paint { x, y, w, h } => self.copper.extend(rectangle([x, y], [w, h])),
+            Call::Erase { x, y, w, h } => rectangle([x, y], [w, h]).for_each(|pixel| {
+                self.copper.remove(&pixel);
+            }),
+            Call::Build { engine } => self.engine = engine,
+            Call::Place { .. } | Call::Run { .. } => self.cutter = self.tested(call).pop(),
+            Call::Lift => self.cutter = None,
+            Call::Expand { q } => self.copper = self.pixels().filter(|&pixel| self.near(pixel, q.into())).collect(),
+            Call::Shrink { q } => {
+                let bare: Vec<Pixel> = self.pixels().filter(|pixel| !self.copper.contains(pixel)).collect();
+                self.copper.retain(|&pixel| bare.iter().all(|&bare| apart(bare, pixel) > q.into()));
+            }
+            Call::Skeleton | Call::Rebuild => {}
+        }
+        match call {
+            Call::Paint { .. } | Call::Erase { .. } | Call::Expand { .. } | Call::Shrink { .. } => (self.engine, self.cutter) = (0, None),
+            Call::Build { .. } => self.cutter = None,
+            _ => {}
+        }
+    }
+
+    /// Feeds the board a call and its answer, and asserts what is promised of every call of a list: a cutter that is brought down or run comes
+    /// to no pixel with copper within q; one that is turned away with 34 had a pixel with copper within q, or on the quick maps within the
+    /// engine's fraction of it; session and sheet agree with the board.
+    pub fn feed(&mut self, call: Call, answer: u32, session: &Session, sheet: &[u8], about: &impl Debug) {
+        let tested = self.tested(call);
+        match answer {
+            0 => {
+                for &(pixel, q) in &tested {
+                    assert!(!self.near(pixel, q.into()), "copper within {q} of {pixel:?}: {about:?}");
+                }
+                self.done(call);
+            }
+            34 => {
+                let within = |&(pixel, q): &(Pixel, u32)| match self.engine {
+                    1 => self.near(pixel, q.into()),
+                    2 => self.near(pixel, 169 * u64::from(q) / 144),
+                    _ => self.near(pixel, 2 * u64::from(q)),
+                };
+                assert!(self.engine != 0 && tested.iter().any(within), "34 with all copper far off: {about:?}");
+            }
+            35 => (self.engine, self.cutter) = (0, None),
+            _ => {}
+        }
+        self.agrees(session, sheet, about);
+    }
+
+    /// Asserts that session and sheet agree with the board, and that a lowered cutter stands clear of copper.
+    fn agrees(&self, session: &Session, sheet: &[u8], about: &impl Debug) {
+        assert_eq!((session.width, session.height, session.engine), (self.w, self.h, self.engine), "sides and engine: {about:?}");
+        assert_eq!((session.opened, session.current), (self.w != 0, self.engine != 0), "open and current: {about:?}");
+        let cutter = session.lowered.then_some(((session.x.into(), session.y.into()), session.q));
+        assert_eq!(cutter, self.cutter, "the cutter: {about:?}");
+        if let Some((pixel, q)) = cutter {
+            assert!(!self.near(pixel, q.into()), "copper within {q} of the cutter: {about:?}");
+        }
+        if session.opened {
+            let agrees = |(pixel, &byte): (Pixel, &u8)| (byte != 0) == self.copper.contains(&pixel);
+            assert!(sheet.len() == self.pixels().count() && self.pixels().zip(sheet).all(agrees), "the copper: {about:?}");
+        }
+    }
+}

@@ -1,0 +1,157 @@
+//! Lists of calls, each call made of the library and checked.
+
+use crate::board::Board;
+use crate::calls::{fields, Call, Slices};
+use abi::session::{Reply, Session};
+use model::random::Random;
+use std::collections::BTreeMap;
+use std::fmt;
+
+/// What the calls of a list are checked by.
+#[derive(Clone, Copy, Debug, PartialEq, Eq)]
+pub enum Check {
+    /// Compared with the model: answer, session and every slice.
+    Model,
+    /// Held against the plain board. This is for lists in which nothing but the calls touches session, sheet and map.
+    Board,
+    /// Both.
+    Both,
+}
+
+/// A list of calls so far.
+pub struct List {
+    pub session: Session,
+    pub sheet: Vec<u8>,
+    pub map: Vec<i16>,
+    check: Check,
+    board: Board,
+    made: Vec<(Call, u32)>,
+    seed: u64,
+}
+
+/// How many calls had each answer, by the name of the call.
+pub type Answers = BTreeMap<u32, BTreeMap<&'static str, u64>>;
+
+/// What the message of a failed check tells: the call, the session and sheet before it, and the calls that led there.
+struct Story<'a> {
+    list: &'a List,
+    call: Call,
+    slices: &'a Slices,
+}
+
+impl fmt::Debug for Story<'_> {
+    fn fmt(&self, f: &mut fmt::Formatter<'_>) -> fmt::Result {
+        let Story { list, call, slices } = self;
+        writeln!(f, "{call:?} in the list of seed {}, with {:?}", list.seed, list.session)?;
+        let Slices { sheet, map, scratch, marks, out } = slices;
+        writeln!(f, "lengths {:?}", [sheet.len(), map.len(), scratch.len(), marks.len(), out.len()])?;
+        if sheet.len() <= 200 {
+            writeln!(f, "sheet {sheet:?}\nmap {map:?}\nmarks {marks:?}")?;
+        }
+        list.made.iter().try_for_each(|(call, answer)| writeln!(f, "{answer} {call:?}"))
+    }
+}
+
+/// Asserts that a slice holds what it should.
+fn same<T: PartialEq + fmt::Debug>(what: &str, found: &[T], expected: &[T], story: &Story) {
+    if let Some(at) = (0..found.len()).find(|&at| found[at] != expected[at]) {
+        panic!("{what} has {:?} at {at}, not {:?}: {story:?}", found[at], expected[at]);
+    }
+}
+
+impl List {
+    /// A list that starts with a fresh session and a sheet and map of any length holding anything. The seed is for messages.
+    pub fn new(check: Check, seed: u64, random: &mut Random) -> Self {
+        let sheet = (0..random.between(0, 20)).map(|_| random.next() as u8).collect();
+        let map = (0..random.between(0, 40)).map(|_| random.next() as i16).collect();
+        List { session: Session::fresh(), sheet, map, check, board: Board::default(), made: Vec::new(), seed }
+    }
+
+    /// Slices for a call: the list's sheet and map, or to open a sheet others of the right lengths, and what else the call takes, of lengths
+    /// that fit. The others hold anything.
+    pub fn slices(&self, call: Call, random: &mut Random) -> Slices {
+        let (sheet, map): (Vec<u8>, Vec<i16>) = match call {
+            Call::Open { w, h } => {
+                let pixels = usize::from(w) * usize::from(h);
+                ((0..pixels).map(|_| random.next() as u8).collect(), (0..2 * pixels).map(|_| random.next() as i16).collect())
+            }
+            _ => (self.sheet.clone(), self.map.clone()),
+        };
+        let pixels = sheet.len();
+        let more = [0, 0, 1, random.between(0, 30)][random.below(4) as usize];
+        let (numbers, bytes) = match call {
+            Call::Build { .. } | Call::Expand { .. } | Call::Shrink { .. } => (pixels + more, 0),
+            Call::Skeleton | Call::Rebuild => (0, pixels),
+            _ => (0, 0),
+        };
+        let sparse = 1 + random.below(9);
+        Slices {
+            scratch: (0..numbers).map(|_| random.next() as i16).collect(),
+            marks: (0..bytes).map(|_| if random.below(sparse) == 0 { random.next() as u8 } else { 0 }).collect(),
+            out: (0..bytes).map(|_| random.next() as u8).collect(),
+            sheet,
+            map,
+        }
+    }
+
+    /// Makes a call with slices that fit, and returns its answer.
+    pub fn call(&mut self, call: Call, random: &mut Random) -> u32 {
+        let slices = self.slices(call, random);
+        self.lend(call, slices, random).0
+    }
+
+    /// Makes a call with these slices, checks it, and returns its answer and what the slices hold afterwards. If it is done the sheet and the
+    /// map are the list's from then on; otherwise the former stay, unless they were lent themselves and so hold what the call left there.
+    pub fn lend(&mut self, call: Call, slices: Slices, random: &mut Random) -> (u32, Slices) {
+        let own = !matches!(call, Call::Open { .. }) && slices.sheet == self.sheet && slices.map == self.map;
+        let mut after = slices.clone();
+        let story = Story { list: self, call, slices: &slices };
+        let reply = call.of_library(self.session, &mut after, random, &story);
+        if self.check != Check::Board {
+            self.compare(&story, reply, &after);
+            self.compare_row(&story, random);
+        }
+        if self.check != Check::Model {
+            let mut board = std::mem::take(&mut self.board);
+            let story = Story { list: self, call, slices: &slices };
+            let sheet = if own || reply.answer == 0 { &after.sheet } else { &self.sheet };
+            board.feed(call, reply.answer, &reply.session, sheet, &story);
+            self.board = board;
+        }
+        if own || reply.answer == 0 {
+            self.sheet.clone_from(&after.sheet);
+            self.map.clone_from(&after.map);
+        }
+        self.session = reply.session;
+        self.made.push((call, reply.answer));
+        (reply.answer, after)
+    }
+
+    /// Asserts that the model answers the same, and hands back the same session and slices.
+    fn compare(&self, story: &Story, reply: Reply, after: &Slices) {
+        let mut expected = story.slices.clone();
+        assert_eq!(reply, story.call.of_model(self.session, &mut expected), "{story:?}");
+        same("sheet", &after.sheet, &expected.sheet, story);
+        same("map", &after.map, &expected.map, story);
+        same("scratch", &after.scratch, &expected.scratch, story);
+        same("marks", &after.marks, &expected.marks, story);
+        same("output", &after.out, &expected.out, story);
+    }
+
+    /// Asserts that a map row is the model's part of the lent map: a part of that slice, and no copy.
+    fn compare_row(&self, story: &Story, random: &mut Random) {
+        let map = &story.slices.map[..];
+        let y = [random.below(10) as u16, self.session.height, self.session.height.wrapping_sub(1), random.next() as u16]
+            [random.below(4) as usize];
+        let (row, expected) = (self.session.map_row(map, y), fields(self.session).map_row(map, y));
+        assert_eq!(row.len(), expected.len(), "map row {y} before {story:?}");
+        assert!(row.is_empty() || row.as_ptr() == map[expected].as_ptr(), "map row {y} before {story:?}");
+    }
+
+    /// Adds the calls of the list to those counted.
+    pub fn count(&self, answers: &mut Answers) {
+        for (call, answer) in &self.made {
+            *answers.entry(*answer).or_default().entry(call.name()).or_default() += 1;
+        }
+    }
+}

@@ -1,0 +1,258 @@
+//! Random lists of calls.
+
+use crate::calls::{fields, Call, Slices};
+use crate::list::{Answers, Check, List};
+use abi::session::Session;
+use model::random::Random;
+
+/// Makes a number of random lists, half of them tampered with between the calls and half not, and counts the calls by their answers. Each list
+/// has a seed of its own, drawn from this one, which a failure names.
+pub fn make(seed: u64, lists: usize, answers: &mut Answers) {
+    let mut seeds = Random::new(seed);
+    for turn in 0..lists {
+        if turn % 2 == 0 {
+            untouched(Check::Both, seeds.next(), answers);
+        } else {
+            tampered(seeds.next(), answers);
+        }
+    }
+}
+
+/// A list in which nothing but the calls touches session, sheet and map.
+pub fn untouched(check: Check, seed: u64, answers: &mut Answers) {
+    let mut random = Random::new(seed);
+    let mut list = List::new(check, seed, &mut random);
+    for _ in 0..random.between(8, 40) {
+        let call = any_call(&list, &mut random);
+        let slices = any_slices(&list, call, &mut random);
+        list.lend(call, slices, &mut random);
+    }
+    list.count(answers);
+}
+
+/// A list in which session, sheet and map are changed between the calls now and then, and slices of wrong lengths are lent.
+fn tampered(seed: u64, answers: &mut Answers) {
+    let mut random = Random::new(seed);
+    let mut list = List::new(Check::Model, seed, &mut random);
+    for _ in 0..random.between(8, 40) {
+        if random.below(8) == 0 {
+            tamper_session(&mut list.session, &mut random);
+        }
+        if random.below(6) == 0 {
+            tamper_map(&mut list.map, &mut random);
+        }
+        if random.below(6) == 0 {
+            tamper_sheet(&mut list.sheet, &mut random);
+        }
+        let call = any_call(&list, &mut random);
+        let mut slices = any_slices(&list, call, &mut random);
+        if random.below(8) == 0 {
+            misfit(&mut slices, &mut random);
+        }
+        list.lend(call, slices, &mut random);
+    }
+    list.count(answers);
+}
+
+/// A call that leads on from where the list stands, or any.
+fn any_call(list: &List, random: &mut Random) -> Call {
+    let session = &list.session;
+    let onwards: &[u64] = match () {
+        _ if fields(*session).closed() => &[0],
+        _ if !session.current => &[1, 1, 1, 3],
+        _ if !session.lowered => &[4, 4, 4, 4, 9, 10],
+        _ => &[4, 5, 5, 5, 5, 5],
+    };
+    let kind = if random.below(4) > 0 { onwards[random.below(onwards.len() as u64) as usize] } else { random.below(11) };
+    match kind {
+        0 => {
+            let [w, h] = sides(random);
+            Call::Open { w, h }
+        }
+        1 => {
+            let [x, y, w, h] = rectangle(session, 2, random);
+            Call::Paint { x, y, w, h }
+        }
+        2 => {
+            let [x, y, w, h] = rectangle(session, 5, random);
+            Call::Erase { x, y, w, h }
+        }
+        3 => Call::Build { engine: seldom(12, &[0, 4, 5, 256, 257, 258, 65_535], 1 + random.below(3), random) as u16 },
+        4 => place(list, random),
+        5 => run(session, random),
+        6 => Call::Lift,
+        7 => Call::Expand { q: resize_q(random) },
+        8 => Call::Shrink { q: resize_q(random) },
+        9 => Call::Skeleton,
+        _ => Call::Rebuild,
+    }
+}
+
+/// A number that is odd once in so many times, and the usual one otherwise. An odd one is one of those given.
+fn seldom(times: u64, odd: &[u64], usual: u64, random: &mut Random) -> u64 {
+    if random.below(times) == 0 {
+        odd[random.below(odd.len() as u64) as usize]
+    } else {
+        usual
+    }
+}
+
+/// The sides of a sheet to open: short ones, one long one, or some outside their limits.
+fn sides(random: &mut Random) -> [u16; 2] {
+    let mut sides = [random.between(1, 11) as u16, random.between(1, 11) as u16];
+    let which = random.below(2) as usize;
+    match random.below(16) {
+        0 => sides[which] = [0, 2_049, 4_096, 32_768, 65_535, random.next() as u16][random.below(6) as usize],
+        1 => sides = [[0, 0], [0, 2_049], [2_049, 2_049], [2_048, 2_048], [65_535, 65_535]][random.below(5) as usize],
+        2 => sides[which] = random.between(12, 40) as u16,
+        3 => (sides[which], sides[1 - which]) = (random.between(1, 60) as u16, 1),
+        _ => {}
+    }
+    sides
+}
+
+/// A rectangle with sides up to `most`, on the sheet or seldom off it.
+fn rectangle(session: &Session, most: usize, random: &mut Random) -> [u16; 4] {
+    let side = |side: u16, random: &mut Random| {
+        let from = random.below(u64::from(side).max(1)) as u16;
+        let room = usize::from(side.saturating_sub(from)).max(1);
+        (from, random.between(1, room.min(most)) as u16)
+    };
+    let ((x, w), (y, h)) = (side(session.width, random), side(session.height, random));
+    let mut rectangle = [x, y, w, h];
+    let which = random.between(0, 3);
+    match random.below(16) {
+        // everything, which is on the sheet, and up to the edge and one more
+        0 => rectangle = [0, 0, session.width, session.height],
+        1 => rectangle[2] = session.width.wrapping_sub(x).wrapping_add(random.below(2) as u16),
+        2 => rectangle[3] = session.height.wrapping_sub(y).wrapping_add(random.below(2) as u16),
+        3 => rectangle[which] = [0, 2_048, 32_768, 65_535, random.next() as u16][random.below(5) as usize],
+        4 if random.below(2) == 0 => rectangle = [65_535, 65_535, 2, 2],
+        _ => {}
+    }
+    rectangle
+}
+
+/// A placing: on the sheet or seldom off it, with a q that is small, or near where the gate begins to fail, or seldom at its limit.
+fn place(list: &List, random: &mut Random) -> Call {
+    let session = &list.session;
+    let coordinate = |side: u16, random: &mut Random| {
+        let usual = random.below(u64::from(side).max(1));
+        seldom(30, &[side.into(), 2_047, 2_048, 65_535], usual, random) as u16
+    };
+    let (x, y) = (coordinate(session.width, random), coordinate(session.height, random));
+    let at = 2 * (usize::from(y) * usize::from(session.width) + usize::from(x));
+    let size = list.map.get(at..at + 2).map_or(0, |way| model::skeleton::size([way[0], way[1]]));
+    let edge = [size, 144 * size / 169, size / 2][random.below(3) as usize];
+    let usual = if random.below(2) == 0 { (edge + 1).saturating_sub(random.below(3)).min(4_194_304) } else { random.below(6) };
+    Call::Place { x, y, q: seldom(20, &[4_194_303, 4_194_304, 4_194_305, 4_294_967_295], usual, random) as u32 }
+}
+
+/// A run: as far as the sheet goes or less, or seldom anything.
+fn run(session: &Session, random: &mut Random) -> Call {
+    let (first, second) = (random.below(8), random.below(8));
+    let direction = if room(session, first) < room(session, second) { second } else { first };
+    let beyond = u64::from(random.below(8) == 0);
+    let count = 1 + random.below(room(session, direction).max(1) + beyond);
+    Call::Run {
+        direction: seldom(25, &[8, 9, 255, 256, 65_535], direction, random) as u16,
+        count: seldom(25, &[0, 2_047, 2_048, 2_049, 65_535], count, random) as u16,
+    }
+}
+
+/// How many steps it is to the edge of the sheet in one of the eight directions.
+fn room(session: &Session, direction: u64) -> u64 {
+    let east = u64::from(session.width.saturating_sub(session.x).saturating_sub(1));
+    let south = u64::from(session.height.saturating_sub(session.y).saturating_sub(1));
+    let (west, north) = (u64::from(session.x), u64::from(session.y));
+    match direction {
+        0 => east,
+        1 => east.min(south),
+        2 => south,
+        3 => south.min(west),
+        4 => west,
+        5 => west.min(north),
+        6 => north,
+        _ => north.min(east),
+    }
+}
+
+/// By how much a sheet is resized: mostly by little, so that copper and bare pixels are left.
+fn resize_q(random: &mut Random) -> u32 {
+    let usual = random.below(6);
+    seldom(6, &[25, 400, 4_194_304, 4_194_305, 4_294_967_295], usual, random) as u32
+}
+
+/// Slices for a call. Those to open a sheet with are others of any length now and then, and always if the sheet would be large.
+fn any_slices(list: &List, call: Call, random: &mut Random) -> Slices {
+    let Call::Open { w, h } = call else { return list.slices(call, random) };
+    if u64::from(w) * u64::from(h) > 3_000 || random.below(12) == 0 {
+        let small = Call::Open { w: random.between(0, 9) as u16, h: random.between(0, 9) as u16 };
+        let mut slices = list.slices(small, random);
+        if random.below(2) == 0 && u64::from(w) * u64::from(h) <= 3_000 {
+            slices.sheet.resize(usize::from(w) * usize::from(h), random.next() as u8);
+        }
+        return slices;
+    }
+    list.slices(call, random)
+}
+
+/// Lends a slice of a wrong length, or several.
+fn misfit(slices: &mut Slices, random: &mut Random) {
+    let mut length = |right: usize| match random.below(8) {
+        0 => right + 1,
+        1 => right.saturating_sub(1),
+        2 => 2 * right,
+        3 => [0, right / 2, random.between(0, 40)][random.below(3) as usize],
+        _ => right,
+    };
+    let Slices { sheet, map, scratch, marks, out } = slices;
+    sheet.resize(length(sheet.len()), 1);
+    map.resize(length(map.len()), 1);
+    scratch.resize(length(scratch.len()), 1);
+    marks.resize(length(marks.len()), 1);
+    out.resize(length(out.len()), 1);
+}
+
+/// Changes one field of a session or several. Many such sessions no call could hand back.
+fn tamper_session(session: &mut Session, random: &mut Random) {
+    for _ in 0..[1, 1, 1, 2, 9][random.below(5) as usize] {
+        let short = |session: &Session, random: &mut Random| {
+            [0, 1, 2, 3, 4, session.width, session.height, 2_047, 2_048, 2_049, 65_535, random.next() as u16][random.below(12) as usize]
+        };
+        match random.below(9) {
+            0 => session.opened ^= true,
+            1 => session.width = short(session, random),
+            2 => session.height = short(session, random),
+            3 => session.current ^= true,
+            4 => session.engine = short(session, random),
+            5 => session.lowered ^= true,
+            6 => session.x = short(session, random),
+            7 => session.y = short(session, random),
+            _ => session.q = [0, 1, 4_194_304, 4_194_305, u32::MAX, random.next() as u32][random.below(6) as usize],
+        }
+    }
+}
+
+/// Writes any vectors into a map: half marked ones, unlabelled ones, or any.
+fn tamper_map(map: &mut [i16], random: &mut Random) {
+    let some = model::maps::any(map.len() / 2, random);
+    let times = 1 + random.below(4);
+    for (pixel, way) in map.as_chunks_mut::<2>().0.iter_mut().zip(some) {
+        if random.below(times) == 0 {
+            *pixel = way;
+        }
+    }
+}
+
+/// Writes any bytes into a sheet, or other bytes for the same copper.
+fn tamper_sheet(sheet: &mut [u8], random: &mut Random) {
+    let copper_alone = random.below(2) == 0;
+    for byte in sheet {
+        if *byte != 0 {
+            *byte = 1 + random.below(255) as u8;
+        } else if !copper_alone && random.below(6) == 0 {
+            *byte = random.next() as u8;
+        }
+    }
+}
