@@ -2,21 +2,27 @@
 //! lists.
 
 use abi::session::Session;
-use model::boards::{self, Board};
+use model::boards;
+use model::nearest;
 use model::random::Random;
 use model::skeleton::size;
 use soak::calls::Call;
 use soak::list::{Answers, Check, List};
 use soak::lists;
 
-/// A list that has opened a sheet and painted single pixels. Each call is compared with the model and held against the plain board.
-fn painted(w: u16, h: u16, copper: &[(u16, u16)], random: &mut Random) -> List {
-    let mut list = List::new(Check::Both, 0, random);
+/// A list that has opened a sheet and painted single pixels.
+fn checked(check: Check, w: u16, h: u16, copper: &[(u16, u16)], random: &mut Random) -> List {
+    let mut list = List::new(check, 0, random);
     assert_eq!(list.call(Call::Open { w, h }, random), 0, "{w} × {h}");
     for &(x, y) in copper {
         assert_eq!(list.call(Call::Paint { x, y, w: 1, h: 1 }, random), 0);
     }
     list
+}
+
+/// The same. Each call is compared with the model and held against the plain board.
+fn painted(w: u16, h: u16, copper: &[(u16, u16)], random: &mut Random) -> List {
+    checked(Check::Both, w, h, copper, random)
 }
 
 /// The same, with the map built by an engine.
@@ -333,47 +339,83 @@ fn claims() {
     }
 }
 
-/// A board turned and mirrored in all eight ways.
-fn turned(board: &Board) -> [Vec<(u16, u16)>; 8] {
-    let copper: Vec<(usize, usize)> =
-        (0..board.sheet.len()).filter(|&at| board.sheet[at] != 0).map(|at| (at % board.w, at / board.w)).collect();
-    let (right, low) = (board.w - 1, board.h - 1);
+/// The arrow head turned and mirrored in all eight ways: sides and copper.
+fn arrow_heads() -> [(u16, u16, Vec<(u16, u16)>); 8] {
+    let board = boards::arrow_head();
+    let copper: Vec<usize> = (0..board.sheet.len()).filter(|&at| board.sheet[at] != 0).collect();
     std::array::from_fn(|way| {
-        let turn = |&(x, y): &(usize, usize)| {
-            let (x, y) = (if way & 1 == 0 { x } else { right - x }, if way & 2 == 0 { y } else { low - y });
-            let (x, y) = if way & 4 == 0 { (x, y) } else { (y, x) };
-            (x as u16, y as u16)
+        let turn = |&at: &usize| {
+            let (x, y) = (at % board.w, at / board.w);
+            let (x, y) = (if way & 1 == 0 { x } else { board.w - 1 - x }, if way & 2 == 0 { y } else { board.h - 1 - y });
+            if way & 4 == 0 {
+                (x as u16, y as u16)
+            } else {
+                (y as u16, x as u16)
+            }
         };
-        copper.iter().map(turn).collect()
+        let (w, h) = if way & 4 == 0 { (board.w, board.h) } else { (board.h, board.w) };
+        (w as u16, h as u16, copper.iter().map(turn).collect())
     })
 }
 
-/// Where 8SED misses the nearest copper the gates keep the cutter off all the same: at every pixel, at the largest q that passes and the next.
+/// At every pixel of the arrow heads the largest q that passes and the next, by all engines, and runs between.
 #[test]
-fn arrow_heads() {
+fn arrow_heads_everywhere() {
     let mut random = Random::new(112);
-    let board = boards::arrow_head();
-    for (way, copper) in turned(&board).iter().enumerate() {
-        let (w, h) = if way & 4 == 0 { (board.w, board.h) } else { (board.h, board.w) };
+    for (w, h, copper) in arrow_heads() {
         for engine in 1..=3 {
-            let mut list = built(w as u16, h as u16, copper, engine, &mut random);
-            for at in 0..w * h {
-                let (x, y) = ((at % w) as u16, (at / w) as u16);
-                let most = most(engine, size([list.map[2 * at], list.map[2 * at + 1]]));
-                if let Some(q) = most {
-                    assert_eq!(list.call(Call::Place { x, y, q }, &mut random), 0);
+            let mut list = built(w, h, &copper, engine, &mut random);
+            for y in 0..h {
+                for x in 0..w {
+                    let at = 2 * (usize::from(y) * usize::from(w) + usize::from(x));
+                    let most = most(engine, size([list.map[at], list.map[at + 1]]));
+                    if let Some(q) = most {
+                        assert_eq!(list.call(Call::Place { x, y, q }, &mut random), 0);
+                    }
+                    assert_eq!(list.call(Call::Place { x, y, q: most.map_or(0, |q| q + 1) }, &mut random), 34);
+                    list.call(Call::Run { direction: random.below(8) as u16, count: 1 + random.below(9) as u16 }, &mut random);
                 }
-                assert_eq!(list.call(Call::Place { x, y, q: most.map_or(0, |q| q + 1) }, &mut random), 34);
-                let direction = random.below(8) as u16;
-                list.call(Call::Run { direction, count: 1 + random.below(9) as u16 }, &mut random);
             }
         }
     }
-    let mut list = built(27, 25, &turned(&board)[0], 2, &mut random);
+    let mut list = built(27, 25, &arrow_heads()[0].2, 2, &mut random);
     let row = list.session.map_row(&list.map, 10);
     assert_eq!(size([row[6], row[7]]), 485);
     let [passes, fails] = [413, 414].map(|q| Call::Place { x: 3, y: 10, q });
     answers(&mut list, [(fails, 34), (passes, 0)], &mut random);
+}
+
+/// Where the quick maps miss the nearest copper, a gate without the fraction lets the cutter come too near. The claims without a look at the
+/// model, on the arrow heads and on other sheets like them.
+#[test]
+fn claims_where_quick_maps_miss() {
+    let mut random = Random::new(115);
+    let mut boards = arrow_heads().to_vec();
+    boards.resize_with(2_000, || {
+        let (w, h) = (random.between(4, 30) as u16, random.between(4, 30) as u16);
+        (w, h, lists::arrow(w, h, &mut random))
+    });
+    let mut missed = [0; 2];
+    for (w, h, copper) in boards {
+        for engine in [2, 3] {
+            let mut list = checked(Check::Board, w, h, &copper, &mut random);
+            assert_eq!(list.call(Call::Build { engine }, &mut random), 0);
+            let distances = nearest::all(&list.sheet, w.into(), h.into());
+            for (at, e) in distances.into_iter().enumerate() {
+                let found = size([list.map[2 * at], list.map[2 * at + 1]]);
+                if e == Some(found) {
+                    continue;
+                }
+                missed[usize::from(engine) - 2] += 1;
+                let (x, y) = ((at % usize::from(w)) as u16, (at / usize::from(w)) as u16);
+                let most = most(engine, found).expect("copper is not missed");
+                for q in [most, most + 1, found as u32 - 1] {
+                    list.call(Call::Place { x, y, q }, &mut random);
+                }
+            }
+        }
+    }
+    assert!(missed[0] >= 8 && missed[1] > 1_000, "{missed:?}");
 }
 
 /// Sheets of one row and of one column.

@@ -4,6 +4,7 @@ use crate::calls::{fields, Call, Slices};
 use crate::list::{Answers, Check, List};
 use abi::session::Session;
 use model::random::Random;
+use model::skeleton::size;
 
 /// Makes a number of random lists, half of them tampered with between the calls and half not, and counts the calls by their answers. Each list
 /// has a seed of its own, drawn from this one, which a failure names.
@@ -20,38 +21,71 @@ pub fn make(seed: u64, lists: usize, answers: &mut Answers) {
 
 /// A list in which nothing but the calls touches session, sheet and map.
 pub fn untouched(check: Check, seed: u64, answers: &mut Answers) {
-    let mut random = Random::new(seed);
-    let mut list = List::new(check, seed, &mut random);
-    for _ in 0..random.between(8, 40) {
-        let call = any_call(&list, &mut random);
-        let slices = any_slices(&list, call, &mut random);
-        list.lend(call, slices, &mut random);
-    }
-    list.count(answers);
+    list(check, seed, answers, |_, _| {}, |_, _| {});
 }
 
 /// A list in which session, sheet and map are changed between the calls now and then, and slices of wrong lengths are lent.
 fn tampered(seed: u64, answers: &mut Answers) {
+    let misfits = |slices: &mut Slices, random: &mut Random| {
+        if random.below(8) == 0 {
+            misfit(slices, random);
+        }
+    };
+    list(Check::Model, seed, answers, tamper, misfits);
+}
+
+/// A list of calls. Before each call it may be tampered with, and the slices to be lent may be changed.
+fn list(
+    check: Check,
+    seed: u64,
+    answers: &mut Answers,
+    tamper: impl Fn(&mut List, &mut Random),
+    change: impl Fn(&mut Slices, &mut Random),
+) {
     let mut random = Random::new(seed);
-    let mut list = List::new(Check::Model, seed, &mut random);
+    let mut list = List::new(check, seed, &mut random);
+    let mut planned = Vec::new();
     for _ in 0..random.between(8, 40) {
-        if random.below(8) == 0 {
-            tamper_session(&mut list.session, &mut random);
-        }
-        if random.below(6) == 0 {
-            tamper_map(&mut list.map, &mut random);
-        }
-        if random.below(6) == 0 {
-            tamper_sheet(&mut list.sheet, &mut random);
-        }
-        let call = any_call(&list, &mut random);
+        tamper(&mut list, &mut random);
+        let call = planned.pop().unwrap_or_else(|| any_call(&list, &mut random));
         let mut slices = any_slices(&list, call, &mut random);
-        if random.below(8) == 0 {
-            misfit(&mut slices, &mut random);
+        change(&mut slices, &mut random);
+        let (answer, _) = list.lend(call, slices, &mut random);
+        if let Call::Open { w, h } = call {
+            if answer == 0 && random.below(3) == 0 {
+                planned.push(Call::Build { engine: 2 + random.below(2) as u16 });
+                planned.extend(arrow(w, h, &mut random).into_iter().map(|(x, y)| Call::Paint { x, y, w: 1, h: 1 }));
+            }
         }
-        list.lend(call, slices, &mut random);
     }
     list.count(answers);
+}
+
+/// Pixels of a sheet for which a quick map may have a pixel miss the nearest: seen from there one is nearest, and on either side of it is one
+/// that is little farther. There are none if the sheet has no room for them.
+pub fn arrow(w: u16, h: u16, random: &mut Random) -> Vec<(u16, u16)> {
+    for _ in 0..10 {
+        let (x, y) = (random.below(w.into()) as u16, random.below(h.into()) as u16);
+        // the quadrant that has more room
+        let (left, up) = (x > w - 1 - x, y > h - 1 - y);
+        let (across, along) = (u64::from(x.max(w - 1 - x)), u64::from(y.max(h - 1 - y)));
+        let (right, down) = (random.below(across + 1), random.below(along + 1));
+        let size = right * right + down * down;
+        let ways = (0..=across).flat_map(|right| (0..=along).map(move |down| (right, down)));
+        let farther: Vec<(u64, u64)> =
+            ways.filter(|(right, down)| (size + 1..=size + 1 + size / 6).contains(&(right * right + down * down))).collect();
+        let (clockwise, other): (Vec<_>, Vec<_>) = farther.into_iter().partition(|way| way.0 * down < way.1 * right);
+        if clockwise.is_empty() || other.is_empty() {
+            continue;
+        }
+        let pick = |ways: &[(u64, u64)], random: &mut Random| ways[random.below(ways.len() as u64) as usize];
+        let place = |(right, down): (u64, u64)| {
+            let (right, down) = (right as u16, down as u16);
+            (if left { x - right } else { x + right }, if up { y - down } else { y + down })
+        };
+        return vec![place((right, down)), place(pick(&clockwise, random)), place(pick(&other, random))];
+    }
+    Vec::new()
 }
 
 /// A call that leads on from where the list stands, or any.
@@ -133,19 +167,37 @@ fn rectangle(session: &Session, most: usize, random: &mut Random) -> [u16; 4] {
     rectangle
 }
 
-/// A placing: on the sheet or seldom off it, with a q that is small, or near where the gate begins to fail, or seldom at its limit.
+/// A placing: on the sheet or seldom off it, now and then where a quick map misses the nearest copper; with a q that is small, or near where the
+/// gate begins to fail, or seldom at its limit.
 fn place(list: &List, random: &mut Random) -> Call {
     let session = &list.session;
     let coordinate = |side: u16, random: &mut Random| {
         let usual = random.below(u64::from(side).max(1));
         seldom(30, &[side.into(), 2_047, 2_048, 65_535], usual, random) as u16
     };
-    let (x, y) = (coordinate(session.width, random), coordinate(session.height, random));
+    let (mut x, mut y) = (coordinate(session.width, random), coordinate(session.height, random));
+    if session.engine > 1 && random.below(4) == 0 {
+        (x, y) = missed(list, random).unwrap_or((x, y));
+    }
     let at = 2 * (usize::from(y) * usize::from(session.width) + usize::from(x));
-    let size = list.map.get(at..at + 2).map_or(0, |way| model::skeleton::size([way[0], way[1]]));
+    let size = list.map.get(at..at + 2).map_or(0, |way| size([way[0], way[1]]));
     let edge = [size, 144 * size / 169, size / 2][random.below(3) as usize];
     let usual = if random.below(2) == 0 { (edge + 1).saturating_sub(random.below(3)).min(4_194_304) } else { random.below(6) };
     Call::Place { x, y, q: seldom(20, &[4_194_303, 4_194_304, 4_194_305, 4_294_967_295], usual, random) as u32 }
+}
+
+/// A pixel at which the map has another size than the true squared distance, if there are any.
+fn missed(list: &List, random: &mut Random) -> Option<(u16, u16)> {
+    let (w, h) = (usize::from(list.session.width), usize::from(list.session.height));
+    if list.sheet.len() != w * h || list.map.len() != 2 * w * h {
+        return None;
+    }
+    let distances = model::nearest::all(&list.sheet, w, h);
+    let ways = list.map.as_chunks::<2>().0.iter();
+    let wrong: Vec<usize> =
+        ways.zip(distances).enumerate().filter(|(_, (&way, e))| e.is_some_and(|e| e != size(way))).map(|(at, _)| at).collect();
+    let at = wrong.get(random.below(wrong.len().max(1) as u64) as usize)?;
+    Some(((at % w) as u16, (at / w) as u16))
 }
 
 /// A run: as far as the sheet goes or less, or seldom anything.
@@ -212,6 +264,19 @@ fn misfit(slices: &mut Slices, random: &mut Random) {
     scratch.resize(length(scratch.len()), 1);
     marks.resize(length(marks.len()), 1);
     out.resize(length(out.len()), 1);
+}
+
+/// Changes session, map and sheet now and then.
+fn tamper(list: &mut List, random: &mut Random) {
+    if random.below(8) == 0 {
+        tamper_session(&mut list.session, random);
+    }
+    if random.below(6) == 0 {
+        tamper_map(&mut list.map, random);
+    }
+    if random.below(6) == 0 {
+        tamper_sheet(&mut list.sheet, random);
+    }
 }
 
 /// Changes one field of a session or several. Many such sessions no call could hand back.
