@@ -1,7 +1,7 @@
 //! The session and its calls.
 //!
-//! Each call takes the session by value and hands it back with its answer number. The calls ask nothing of their caller: any numbers, slices
-//! of any length and sessions with any fields get the answer that is theirs, and none of the calls panics.
+//! Each call takes the session by value and hands it back with its answer number. The calls ask nothing of their caller: any numbers,
+//! slices of any length and sessions with any fields get the answer that is theirs, and none of the calls panics.
 //!
 //! ```
 //! use abi::session::{Reply, Session};
@@ -129,7 +129,7 @@ impl Session {
         unsafe { ffi::abi_session_open(self, sheet.as_mut_ptr(), sheet.len(), w, h) }
     }
 
-    /// Paints the rectangle of `w` × `h` pixels from (x, y): 1 is written there, the map is not current, the cutter up. Refusals: 30, 12, 13.
+    /// Paints the rectangle of `w` × `h` pixels from (x, y): 1 is written there, the map not current, the cutter up. Refusals: 30, 12, 13.
     pub fn paint(self, sheet: &mut [u8], x: u16, y: u16, w: u16, h: u16) -> Reply {
         // SAFETY: as in `open`.
         unsafe { ffi::abi_session_paint(self, sheet.as_mut_ptr(), sheet.len(), x, y, w, h) }
@@ -141,8 +141,8 @@ impl Session {
         unsafe { ffi::abi_session_erase(self, sheet.as_mut_ptr(), sheet.len(), x, y, w, h) }
     }
 
-    /// Builds the map by engine 1 exact, 2 8SED or 3 4SED. It is then current, the cutter up. Only exact tests and writes scratch, and leaves
-    /// its first W × H numbers at 0. Refusals: 30, 12, 14; 35, which no sheet gives.
+    /// Builds the map by engine 1 exact, 2 8SED or 3 4SED. It is then current, the cutter up. Only exact tests and writes scratch, and
+    /// leaves its first W × H numbers at 0. Refusals: 30, 12, 14; 35, which no sheet gives.
     pub fn build(self, sheet: &[u8], map: &mut [i16], scratch: &mut [i16], engine: u16) -> Reply {
         let (map, map_len) = (map.as_mut_ptr(), map.len());
         // SAFETY: each pointer comes with the length of the slice it is from, map and scratch are lent to nobody else, and the function has
@@ -169,17 +169,17 @@ impl Session {
         unsafe { ffi::abi_session_lift(self) }
     }
 
-    /// Expands the sheet by q: a pixel is 1 afterwards if its true squared distance is at most q, otherwise 0. The map is left unlabelled and
-    /// not current, scratch as after exact, the cutter up. Refusals: 30, 12, 15.
+    /// Expands the sheet by q: a pixel is 1 afterwards if its true squared distance is at most q, otherwise 0. The map is left unlabelled
+    /// and not current, scratch as after exact, the cutter up. Refusals: 30, 12, 15.
     pub fn expand(self, sheet: &mut [u8], map: &mut [i16], scratch: &mut [i16], q: u32) -> Reply {
         let (map, map_len) = (map.as_mut_ptr(), map.len());
-        // SAFETY: each pointer comes with the length of the slice it is from, the three slices are lent to nobody else, and the function has
-        // no `requires`. It is proved to return and to stay within the three slices.
+        // SAFETY: each pointer comes with the length of the slice it is from, the three slices are lent to nobody else, and the function
+        // has no `requires`. It is proved to return and to stay within the three slices.
         unsafe { ffi::abi_session_expand(self, sheet.as_mut_ptr(), sheet.len(), map, map_len, scratch.as_mut_ptr(), scratch.len(), q) }
     }
 
-    /// Shrinks the sheet by q: a copper pixel is 1 afterwards if every bare pixel of the sheet is at squared distance above q, all else is 0.
-    /// Otherwise as [`Session::expand`].
+    /// Shrinks the sheet by q: a copper pixel is 1 afterwards if every bare pixel of the sheet is at squared distance above q, all else is
+    /// 0. Otherwise as [`Session::expand`].
     pub fn shrink(self, sheet: &mut [u8], map: &mut [i16], scratch: &mut [i16], q: u32) -> Reply {
         let (map, map_len) = (map.as_mut_ptr(), map.len());
         // SAFETY: as in `expand`.
@@ -188,16 +188,16 @@ impl Session {
 
     /// Writes the skeleton of the current exact map: 1 at each pixel that is kept, 0 elsewhere. Refusals: 30, 12, 31, 36, 37.
     pub fn skeleton(self, map: &[i16], out: &mut [u8]) -> Reply {
-        // SAFETY: each pointer comes with the length of the slice it is from, out is lent to nobody else, and the function has no `requires`.
-        // It is proved to return and to stay within the two slices.
+        // SAFETY: each pointer comes with the length of the slice it is from, out is lent to nobody else, and the function has no
+        // `requires`. It is proved to return and to stay within the two slices.
         unsafe { ffi::abi_session_skeleton(self, map.as_ptr(), map.len(), out.as_mut_ptr(), out.len()) }
     }
 
-    /// Writes what the marked pixels of the current exact map cover: 1 at a pixel if its squared distance to some pixel whose mark is not 0 is
-    /// below that one's size, 0 elsewhere. Refusals: 30, 12, 31, 36, 37.
+    /// Writes what the marked pixels of the current exact map cover: 1 at a pixel if its squared distance to some pixel whose mark is not 0
+    /// is below that one's size, 0 elsewhere. Refusals: 30, 12, 31, 36, 37.
     pub fn rebuild(self, map: &[i16], marks: &[u8], out: &mut [u8]) -> Reply {
-        // SAFETY: each pointer comes with the length of the slice it is from, out is lent to nobody else, and the function has no `requires`.
-        // It is proved to return and to stay within the three slices.
+        // SAFETY: each pointer comes with the length of the slice it is from, out is lent to nobody else, and the function has no
+        // `requires`. It is proved to return and to stay within the three slices.
         unsafe { ffi::abi_session_rebuild(self, map.as_ptr(), map.len(), marks.as_ptr(), marks.len(), out.as_mut_ptr(), out.len()) }
     }
 

@@ -1,7 +1,7 @@
-//! The calls of the session: document 01's boards and edges, and many thousand lists of calls beside the model, held against the claims over
-//! lists.
+//! The calls of the session: document 01's boards and edges, and many thousand lists of calls beside the model, held against the claims
+//! over lists.
 
-use abi::session::Session;
+use abi::session::{Reply, Session};
 use model::boards;
 use model::nearest;
 use model::random::Random;
@@ -49,6 +49,13 @@ fn most(engine: u16, size: u64) -> Option<u32> {
         2 => (144 * size - 1) / 169,
         _ => below / 2,
     } as u32)
+}
+
+#[test]
+fn fresh() {
+    let nothing = Session { opened: false, width: 0, height: 0, current: false, engine: 0, lowered: false, x: 0, y: 0, q: 0 };
+    assert_eq!(Session::fresh(), nothing);
+    assert_eq!(Session::fresh().lift(), Reply { answer: 0, session: nothing });
 }
 
 #[test]
@@ -339,8 +346,11 @@ fn claims() {
     }
 }
 
-/// The arrow head turned and mirrored in all eight ways: sides and copper.
-fn arrow_heads() -> [(u16, u16, Vec<(u16, u16)>); 8] {
+/// The sides of a sheet, and its copper.
+type Drawn = (u16, u16, Vec<(u16, u16)>);
+
+/// The arrow head turned and mirrored in all eight ways.
+fn arrow_heads() -> [Drawn; 8] {
     let board = boards::arrow_head();
     let copper: Vec<usize> = (0..board.sheet.len()).filter(|&at| board.sheet[at] != 0).collect();
     std::array::from_fn(|way| {
@@ -385,14 +395,14 @@ fn arrow_heads_everywhere() {
     answers(&mut list, [(fails, 34), (passes, 0)], &mut random);
 }
 
-/// Where the quick maps miss the nearest copper, a gate without the fraction lets the cutter come too near. The claims without a look at the
-/// model, on the arrow heads and on other sheets like them.
+/// Where the quick maps miss the nearest copper, a gate without the fraction lets the cutter come too near. The claims without a look at
+/// the model, on the arrow heads and on other sheets like them.
 #[test]
 fn claims_where_quick_maps_miss() {
     let mut random = Random::new(115);
     let mut boards = arrow_heads().to_vec();
-    boards.resize_with(2_000, || {
-        let (w, h) = (random.between(4, 30) as u16, random.between(4, 30) as u16);
+    boards.resize_with(10_000, || {
+        let (w, h) = (random.between(4, 36) as u16, random.between(4, 36) as u16);
         (w, h, lists::arrow(w, h, &mut random))
     });
     let mut missed = [0; 2];
@@ -403,7 +413,7 @@ fn claims_where_quick_maps_miss() {
             let distances = nearest::all(&list.sheet, w.into(), h.into());
             for (at, e) in distances.into_iter().enumerate() {
                 let found = size([list.map[2 * at], list.map[2 * at + 1]]);
-                if e == Some(found) {
+                if e.is_none_or(|e| e == found) {
                     continue;
                 }
                 missed[usize::from(engine) - 2] += 1;
@@ -415,7 +425,7 @@ fn claims_where_quick_maps_miss() {
             }
         }
     }
-    assert!(missed[0] >= 8 && missed[1] > 1_000, "{missed:?}");
+    assert!(missed[0] > 40 && missed[1] > 800, "{missed:?}");
 }
 
 /// Sheets of one row and of one column.

@@ -1,5 +1,5 @@
-//! The session, for any fields, any numbers and slices of any length: each call writes what the slices hold afterwards, and returns its answer
-//! and the session.
+//! The session, for any fields, any numbers and slices of any length: each call writes what the slices hold afterwards, and returns its
+//! answer and the session.
 
 use crate::scans::{self, UNLABELLED};
 use crate::skeleton::{self, size};
@@ -166,8 +166,8 @@ impl Fields {
         }
     }
 
-    /// What is open. Nothing is in a session that no call could hand back: one outside the limits, or one that holds anything beyond what is
-    /// recorded of the sheet, map and cutter that it names.
+    /// What is open. Nothing is in a session that no call could hand back: one outside the limits, or one that holds anything beyond what
+    /// is recorded of the sheet, map and cutter that it names.
     fn read(self) -> Option<Open> {
         let cutter = self.lowered.then_some(Cutter { x: self.x, y: self.y, q: self.q });
         let map = Engine::numbered(self.engine).filter(|_| self.current).map(|engine| Current { engine, cutter });

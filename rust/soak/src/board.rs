@@ -79,11 +79,14 @@ impl Board {
         }
     }
 
-    /// Feeds the board a call and its answer, and asserts what is promised of every call of a list: a cutter that is brought down or run comes
-    /// to no pixel with copper within q; one that is turned away with 34 had a pixel with copper within q, or on the quick maps within the
-    /// engine's fraction of it; session and sheet agree with the board.
+    /// Feeds the board a call and its answer, and asserts what is promised of every call of a list: a cutter that is brought down or run
+    /// comes to no pixel with copper within q; one that is turned away with 34 had a pixel with copper within q, or on the quick maps
+    /// within the engine's fraction of it; session and sheet agree with the board.
     pub fn feed(&mut self, call: Call, answer: u32, session: &Session, sheet: &[u8], about: &impl Debug) {
         let tested = self.tested(call);
+        let on_sheet = |(x, y): Pixel| (0..self.w.into()).contains(&x) && (0..self.h.into()).contains(&y);
+        let all_on_sheet = tested.iter().all(|&(pixel, _)| on_sheet(pixel));
+        assert!(![0, 34].contains(&answer) || all_on_sheet, "{answer} off the sheet: {about:?}");
         match answer {
             0 => {
                 for &(pixel, q) in &tested {

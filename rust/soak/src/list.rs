@@ -67,8 +67,8 @@ impl List {
         List { session: Session::fresh(), sheet, map, check, board: Board::default(), made: Vec::new(), seed }
     }
 
-    /// Slices for a call: the list's sheet and map, or to open a sheet others of the right lengths, and what else the call takes, of lengths
-    /// that fit. The others hold anything.
+    /// Slices for a call: the list's sheet and map, or to open a sheet others of the right lengths, and what else the call takes, of
+    /// lengths that fit. The others hold anything.
     pub fn slices(&self, call: Call, random: &mut Random) -> Slices {
         let (sheet, map): (Vec<u8>, Vec<i16>) = match call {
             Call::Open { w, h } => {
@@ -100,8 +100,9 @@ impl List {
         self.lend(call, slices, random).0
     }
 
-    /// Makes a call with these slices, checks it, and returns its answer and what the slices hold afterwards. If it is done the sheet and the
-    /// map are the list's from then on; otherwise the former stay, unless they were lent themselves and so hold what the call left there.
+    /// Makes a call with these slices, checks it, and returns its answer and what the slices hold afterwards. If it is done the sheet and
+    /// the map are the list's from then on; otherwise the former stay, unless they were lent themselves and so hold what the call left
+    /// there.
     pub fn lend(&mut self, call: Call, slices: Slices, random: &mut Random) -> (u32, Slices) {
         let own = !matches!(call, Call::Open { .. }) && slices.sheet == self.sheet && slices.map == self.map;
         let mut after = slices.clone();

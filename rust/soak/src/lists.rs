@@ -6,50 +6,39 @@ use abi::session::Session;
 use model::random::Random;
 use model::skeleton::size;
 
-/// Makes a number of random lists, half of them tampered with between the calls and half not, and counts the calls by their answers. Each list
-/// has a seed of its own, drawn from this one, which a failure names.
+/// Makes a number of random lists, half of them tampered with between the calls and half not, and counts the calls by their answers. Each
+/// list has a seed of its own, drawn from this one, which a failure names.
 pub fn make(seed: u64, lists: usize, answers: &mut Answers) {
     let mut seeds = Random::new(seed);
     for turn in 0..lists {
         if turn % 2 == 0 {
             untouched(Check::Both, seeds.next(), answers);
         } else {
-            tampered(seeds.next(), answers);
+            list(Check::Model, true, seeds.next(), answers);
         }
     }
 }
 
 /// A list in which nothing but the calls touches session, sheet and map.
 pub fn untouched(check: Check, seed: u64, answers: &mut Answers) {
-    list(check, seed, answers, |_, _| {}, |_, _| {});
+    list(check, false, seed, answers);
 }
 
-/// A list in which session, sheet and map are changed between the calls now and then, and slices of wrong lengths are lent.
-fn tampered(seed: u64, answers: &mut Answers) {
-    let misfits = |slices: &mut Slices, random: &mut Random| {
-        if random.below(8) == 0 {
-            misfit(slices, random);
-        }
-    };
-    list(Check::Model, seed, answers, tamper, misfits);
-}
-
-/// A list of calls. Before each call it may be tampered with, and the slices to be lent may be changed.
-fn list(
-    check: Check,
-    seed: u64,
-    answers: &mut Answers,
-    tamper: impl Fn(&mut List, &mut Random),
-    change: impl Fn(&mut Slices, &mut Random),
-) {
+/// A list of calls. If it is tampered with, session, sheet and map are changed between the calls now and then, and slices of wrong lengths
+/// are lent.
+fn list(check: Check, tampered: bool, seed: u64, answers: &mut Answers) {
     let mut random = Random::new(seed);
     let mut list = List::new(check, seed, &mut random);
     let mut planned = Vec::new();
     for _ in 0..random.between(8, 40) {
-        tamper(&mut list, &mut random);
+        if tampered {
+            tamper(&mut list, &mut random);
+        }
         let call = planned.pop().unwrap_or_else(|| any_call(&list, &mut random));
         let mut slices = any_slices(&list, call, &mut random);
-        change(&mut slices, &mut random);
+        if tampered && random.below(8) == 0 {
+            misfit(&mut slices, &mut random);
+        }
         let (answer, _) = list.lend(call, slices, &mut random);
         if let Call::Open { w, h } = call {
             if answer == 0 && random.below(3) == 0 {
@@ -61,8 +50,8 @@ fn list(
     list.count(answers);
 }
 
-/// Pixels of a sheet for which a quick map may have a pixel miss the nearest: seen from there one is nearest, and on either side of it is one
-/// that is little farther. There are none if the sheet has no room for them.
+/// Three pixels to be copper, of which a quick map may miss the one that is nearest to a fourth pixel: on either side of it is another,
+/// which is little farther. None are found if the sheet has no room for them.
 pub fn arrow(w: u16, h: u16, random: &mut Random) -> Vec<(u16, u16)> {
     for _ in 0..10 {
         let (x, y) = (random.below(w.into()) as u16, random.below(h.into()) as u16);
@@ -71,9 +60,9 @@ pub fn arrow(w: u16, h: u16, random: &mut Random) -> Vec<(u16, u16)> {
         let (across, along) = (u64::from(x.max(w - 1 - x)), u64::from(y.max(h - 1 - y)));
         let (right, down) = (random.below(across + 1), random.below(along + 1));
         let size = right * right + down * down;
+        let most = size + 1 + [size / 50, size / 6, size][random.below(3) as usize];
         let ways = (0..=across).flat_map(|right| (0..=along).map(move |down| (right, down)));
-        let farther: Vec<(u64, u64)> =
-            ways.filter(|(right, down)| (size + 1..=size + 1 + size / 6).contains(&(right * right + down * down))).collect();
+        let farther: Vec<(u64, u64)> = ways.filter(|(right, down)| (size + 1..=most).contains(&(right * right + down * down))).collect();
         let (clockwise, other): (Vec<_>, Vec<_>) = farther.into_iter().partition(|way| way.0 * down < way.1 * right);
         if clockwise.is_empty() || other.is_empty() {
             continue;
@@ -122,7 +111,7 @@ fn any_call(list: &List, random: &mut Random) -> Call {
     }
 }
 
-/// A number that is odd once in so many times, and the usual one otherwise. An odd one is one of those given.
+/// The usual number, or once in so many times one of the odd ones.
 fn seldom(times: u64, odd: &[u64], usual: u64, random: &mut Random) -> u64 {
     if random.below(times) == 0 {
         odd[random.below(odd.len() as u64) as usize]
@@ -167,8 +156,8 @@ fn rectangle(session: &Session, most: usize, random: &mut Random) -> [u16; 4] {
     rectangle
 }
 
-/// A placing: on the sheet or seldom off it, now and then where a quick map misses the nearest copper; with a q that is small, or near where the
-/// gate begins to fail, or seldom at its limit.
+/// A placing: on the sheet or seldom off it, now and then where a quick map misses the nearest copper; with a q that is small, or near
+/// where the gate begins to fail, or seldom at its limit.
 fn place(list: &List, random: &mut Random) -> Call {
     let session = &list.session;
     let coordinate = |side: u16, random: &mut Random| {
@@ -235,7 +224,7 @@ fn resize_q(random: &mut Random) -> u32 {
     seldom(6, &[25, 400, 4_194_304, 4_194_305, 4_294_967_295], usual, random) as u32
 }
 
-/// Slices for a call. Those to open a sheet with are others of any length now and then, and always if the sheet would be large.
+/// Slices for a call. To open a sheet some have a wrong length now and then, and always if the sheet would be large.
 fn any_slices(list: &List, call: Call, random: &mut Random) -> Slices {
     let Call::Open { w, h } = call else { return list.slices(call, random) };
     if u64::from(w) * u64::from(h) > 3_000 || random.below(12) == 0 {
