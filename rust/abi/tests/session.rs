@@ -396,7 +396,7 @@ fn arrow_heads_everywhere() {
 }
 
 /// Where the quick maps miss the nearest copper, a gate without the fraction lets the cutter come too near. The claims without a look at
-/// the model, on the arrow heads and on other sheets like them.
+/// the model: on the arrow heads, on other sheets like them, and on every sheet of 6 × 6 with three copper pixels.
 #[test]
 fn claims_where_quick_maps_miss() {
     let mut random = Random::new(115);
@@ -405,27 +405,32 @@ fn claims_where_quick_maps_miss() {
         let (w, h) = (random.between(4, 36) as u16, random.between(4, 36) as u16);
         (w, h, lists::arrow(w, h, &mut random))
     });
-    let mut missed = [0; 2];
+    for first in 0..36 {
+        for second in 0..first {
+            boards.extend((0..second).map(|third| (6, 6, [first, second, third].map(|at| (at % 6, at / 6)).to_vec())));
+        }
+    }
+    // by 8SED, by 4SED, and by 4SED so far that the fraction of 8SED would not do
+    let mut missed = [0; 3];
     for (w, h, copper) in boards {
         for engine in [2, 3] {
             let mut list = checked(Check::Board, w, h, &copper, &mut random);
             assert_eq!(list.call(Call::Build { engine }, &mut random), 0);
-            let distances = nearest::all(&list.sheet, w.into(), h.into());
-            for (at, e) in distances.into_iter().enumerate() {
+            for (at, e) in nearest::all(&list.sheet, w.into(), h.into()).into_iter().enumerate() {
                 let found = size([list.map[2 * at], list.map[2 * at + 1]]);
-                if e.is_none_or(|e| e == found) {
-                    continue;
-                }
+                let Some(e) = e.filter(|&e| e != found) else { continue };
                 missed[usize::from(engine) - 2] += 1;
+                missed[2] += usize::from(144 * found > 169 * e);
                 let (x, y) = ((at % usize::from(w)) as u16, (at / usize::from(w)) as u16);
-                let most = most(engine, found).expect("copper is not missed");
-                for q in [most, most + 1, found as u32 - 1] {
+                for gate in 1..=3 {
+                    let q = most(gate, found).expect("copper is not missed");
                     list.call(Call::Place { x, y, q }, &mut random);
+                    list.call(Call::Place { x, y, q: q + 1 }, &mut random);
                 }
             }
         }
     }
-    assert!(missed[0] > 40 && missed[1] > 800, "{missed:?}");
+    assert!(missed[0] > 40 && missed[1] > 800 && missed[2] > 15, "{missed:?}");
 }
 
 /// Sheets of one row and of one column.
