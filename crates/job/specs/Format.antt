@@ -78,7 +78,7 @@ ordersOf bytes = ordersIn (length bytes) bytes
 unfoldable pub splitOf : List ℕ → Counted
 splitOf bytes = cond (isJob bytes) (record { records = length (ordersOf bytes); answer = 0 }) (record { records = 0; answer = 19 })
 
--- ---- writing: what `encoded` (FormatLaws) compares reading with
+-- ---- writing: reading undoes it (`encoded`), and what splits was written so (`decoded`)
 
 abbrev pub wordBytes : ℕ → List ℕ
 wordBytes n = n % 256 ∷ n / 256 ∷ []

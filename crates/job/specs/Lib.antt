@@ -6,3 +6,4 @@ pub mod Run
 pub mod Obey
 pub mod ObeyLaws
 pub mod RunLaws
+pub mod DecodingLaws

@@ -33,6 +33,7 @@ pub record Left (b : Bench) (sheet : List ℕ) (map scratch : List ℤ) : Type 0
 pub record Here (b : List ℕ) : Type 0 where
   pub known : (1 ≤ word b 2) × (word b 2 ≤ 9)
   pub header : 4 ≤ length b
+  pub said : word b 0 ≡ sizeOf (word b 2)
   pub size : sizeOf (word b 2) ≤ length b
 
 -- it was answered with a, and left the bench as `next`

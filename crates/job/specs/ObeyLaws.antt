@@ -116,6 +116,7 @@ here b {size} is some = go (leb 4 (length b)) refl (eqb (word b 0) (sizeOf (word
         record {
           known = has-size (word b 2) (λ z. some (e ∙ same ∙ z));
           header = leb-true 4 (length b) p;
+          said = same;
           size = omega (arith, same, fits);
         }
 

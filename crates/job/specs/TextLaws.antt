@@ -82,3 +82,28 @@ line-length i a = simp length-append (omega arith)
 -- a record's line has at most nine bytes
 pub nine-bytes : (i a : ℕ) → i < 100000 → a < 100 → length (line i a) ≤ 9
 nine-bytes i a fi fa = omega (arith, line-length i a, five-digits 5 i fi, two-digits 8 a fa)
+
+-- ---- the digits are those of the number
+
+-- the number that digits spell, behind those that spell n
+unfoldable pub spelled : (n : ℕ) → List ℕ → ℕ
+spelled n [] = n
+spelled n (d ∷ rest) = spelled (10 * n + (d - 48)) rest
+
+spelled-more : (n : ℕ) (s t : List ℕ) → spelled n (s ++ t) ≡ spelled (spelled n s) t
+unfolding spelled
+spelled-more n [] t = refl
+spelled-more n (d ∷ s) t = spelled-more (10 * n + (d - 48)) s t
+
+-- the first number of more digits than so many
+unfoldable pub tens : (most : ℕ) → ℕ
+tens zero = 1
+tens (suc k) = 10 * tens k
+
+-- the theorem: the digits of a number that needs no more than so many spell it
+pub digits-spell : (most n : ℕ) → n < tens most → spelled 0 (digits most n) ≡ n
+unfolding digits spelled tens
+digits-spell zero n h = omega arith
+digits-spell (suc k) n h =
+    cond-ind (λ (l : List ℕ). spelled 0 l ≡ n) (ltb n 10) (λ _. omega arith)
+    (λ _. rw (spelled-more 0 (digits k (n / 10)) ((48 + n % 10) ∷ []), digits-spell k (n / 10) (omega arith)) (omega arith))

@@ -1,0 +1,144 @@
+-- The bytes of a job file that splits are those of its records, written one after the other.
+-- Assumes nothing.
+use mathlib.Core.Path.{_≡_, refl, sym, ap, ap₂, _∙_}
+use mathlib.Core.Bool.{Bool, true, false, cond, _&&_, false≢true}
+use mathlib.Core.List.{List, [], _∷_, _++_}
+use Prim.Native.Nat.{ℕ, zero, suc, _+_, _*_, _/_, _%_, _<_, _≤_}
+use native.Mathlib.Omega.{arith}
+use native.Mathlib.Numerals.{add-one}
+use lib.Dec.{eqb, leb}
+use lib.ListN.{length, getD, take, drop, length-drop, take-append-drop}
+use lib.Seq.{drop-cons, drop-drop, getD-drop, take-add}
+use borrow.Author.Tests.{eqb-true, eqb-false, leb-true}
+use Rattle.raster.specs.Tests.{and-left, and-right}
+use Rattle.job.specs.Format.{Order, word, long, sizeOf, sizeHere, orderHere, splits, ordersIn, isJob, ordersOf, wordBytes, longBytes, encode, encodeAll}
+use Rattle.job.specs.FormatLaws.{is-opening, is-paint, is-erase, is-build, is-place, is-run, is-lift, is-expand, is-shrink}
+use Rattle.job.specs.Obey.{Here}
+use Rattle.job.specs.ObeyLaws.{here}
+
+-- every element is a byte
+abbrev pub Bytes : List ℕ → Type 0
+Bytes l = (i : ℕ) → getD l i 0 < 256
+
+-- so many 16-bit numbers from a place on, written again
+words : (count i : ℕ) → List ℕ → List ℕ
+words zero i b = []
+words (suc c) i b = wordBytes (word b i) ++ words c (i + 2) b
+
+low : (a b : ℕ) → a < 256 → (a + 256 * b) % 256 ≡ a
+low a b h = omega arith
+
+high : (a b : ℕ) → a < 256 → (a + 256 * b) / 256 ≡ b
+high a b h = omega arith
+
+pair : (b : List ℕ) (i : ℕ) → Bytes b → i + 2 ≤ length b → wordBytes (word b i) ≡ take 2 (drop i b)
+pair b i bytes h =
+    let one : drop i b ≡ getD b i 0 ∷ drop (i + 1) b = drop-cons b i 0 (omega arith) ∙ ap (λ (n : ℕ). getD b i 0 ∷ drop n b) (sym (add-one i)) in
+    rw (low (getD b i 0) (getD b (i + 1) 0) (bytes i), high (getD b i 0) (getD b (i + 1) 0) (bytes i), one, drop-cons b (i + 1) 0 (omega arith))
+
+words-are : (c i : ℕ) (b : List ℕ) → Bytes b → i + 2 * c ≤ length b → words c i b ≡ take (2 * c) (drop i b)
+unfolding words
+words-are zero i b bytes h = refl
+words-are (suc c) i b bytes h =
+    let n : 2 * suc c ≡ 2 + 2 * c = omega arith in
+    rw (n, take-add 2 (2 * c) (drop i b), drop-drop 2 i b)
+    (ap₂ (λ (x y : List ℕ). x ++ y) (pair b i bytes (omega arith)) (words-are c (i + 2) b bytes (omega arith)))
+
+word-limit : (b : List ℕ) (i : ℕ) → Bytes b → word b i < 65536
+word-limit b i bytes = omega (arith, bytes i, bytes (i + 1))
+
+halves : (a b : ℕ) → a < 65536 → ((a + 65536 * b) % 65536 ≡ a) × ((a + 65536 * b) / 65536 ≡ b)
+halves a b h = (omega arith, omega arith)
+
+-- the record at the front, written again, is the bytes that it had
+module _ (b : List ℕ) (bytes : Bytes b) (fits : word b 0 ≤ length b) where
+  written-opening : word b 2 ≡ 1 → word b 0 ≡ 8 → encode (orderHere b) ≡ take (word b 0) b
+  unfolding words encode
+  written-opening k s = rw (is-opening b k, s) (rw (s, k) at (words-are 4 0 b bytes (omega arith)))
+
+  written-paint : word b 2 ≡ 2 → word b 0 ≡ 12 → encode (orderHere b) ≡ take (word b 0) b
+  unfolding words encode
+  written-paint k s = rw (is-paint b k, s) (rw (s, k) at (words-are 6 0 b bytes (omega arith)))
+
+  written-erase : word b 2 ≡ 3 → word b 0 ≡ 12 → encode (orderHere b) ≡ take (word b 0) b
+  unfolding words encode
+  written-erase k s = rw (is-erase b k, s) (rw (s, k) at (words-are 6 0 b bytes (omega arith)))
+
+  written-build : word b 2 ≡ 4 → word b 0 ≡ 6 → encode (orderHere b) ≡ take (word b 0) b
+  unfolding words encode
+  written-build k s = rw (is-build b k, s) (rw (s, k) at (words-are 3 0 b bytes (omega arith)))
+
+  written-place : word b 2 ≡ 5 → word b 0 ≡ 12 → encode (orderHere b) ≡ take (word b 0) b
+  unfolding words encode
+  written-place k s = let l = halves (word b 8) (word b 10) (word-limit b 8 bytes) in rw (is-place b k, s, l .0, l .1) (rw (s, k) at (words-are 6 0 b bytes (omega arith)))
+
+  written-run : word b 2 ≡ 6 → word b 0 ≡ 8 → encode (orderHere b) ≡ take (word b 0) b
+  unfolding words encode
+  written-run k s = rw (is-run b k, s) (rw (s, k) at (words-are 4 0 b bytes (omega arith)))
+
+  written-lift : word b 2 ≡ 7 → word b 0 ≡ 4 → encode (orderHere b) ≡ take (word b 0) b
+  unfolding words encode
+  written-lift k s = rw (is-lift b k, s) (rw (s, k) at (words-are 2 0 b bytes (omega arith)))
+
+  written-expand : word b 2 ≡ 8 → word b 0 ≡ 8 → encode (orderHere b) ≡ take (word b 0) b
+  unfolding words encode
+  written-expand k s = let l = halves (word b 4) (word b 6) (word-limit b 4 bytes) in rw (is-expand b k, s, l .0, l .1) (rw (s, k) at (words-are 4 0 b bytes (omega arith)))
+
+  written-shrink : word b 2 ≡ 9 → word b 0 ≡ 8 → encode (orderHere b) ≡ take (word b 0) b
+  unfolding words encode
+  written-shrink k s = let l = halves (word b 4) (word b 6) (word-limit b 4 bytes) in rw (is-shrink b k, s, l .0, l .1) (rw (s, k) at (words-are 4 0 b bytes (omega arith)))
+
+  written-record : (k : ℕ) → word b 2 ≡ k → word b 0 ≡ sizeOf k → 1 ≤ k → k ≤ 9 → encode (orderHere b) ≡ take (word b 0) b
+  unfolding sizeOf
+  written-record zero e s l h = absurd (omega arith)
+  written-record (suc zero) e s l h = written-opening e s
+  written-record (suc (suc zero)) e s l h = written-paint e s
+  written-record (suc (suc (suc zero))) e s l h = written-erase e s
+  written-record (suc (suc (suc (suc zero)))) e s l h = written-build e s
+  written-record (suc (suc (suc (suc (suc zero))))) e s l h = written-place e s
+  written-record (suc (suc (suc (suc (suc (suc zero)))))) e s l h = written-run e s
+  written-record (suc (suc (suc (suc (suc (suc (suc zero))))))) e s l h = written-lift e s
+  written-record (suc (suc (suc (suc (suc (suc (suc (suc zero)))))))) e s l h = written-expand e s
+  written-record (suc (suc (suc (suc (suc (suc (suc (suc (suc zero))))))))) e s l h = written-shrink e s
+  written-record (suc (suc (suc (suc (suc (suc (suc (suc (suc (suc k)))))))))) e s l h = absurd (omega arith)
+
+-- its length is the one it says
+size-said : (b : List ℕ) → (sizeHere b ≡ 0 → ⊥) → sizeHere b ≡ word b 0
+unfolding sizeHere
+size-said b some = go (leb 4 (length b)) (eqb (word b 0) (sizeOf (word b 2)) && leb (word b 0) (length b)) some
+  where
+    go : (t u : Bool) → (cond t (cond u (word b 0) 0) 0 ≡ 0 → ⊥) → cond t (cond u (word b 0) 0) 0 ≡ word b 0
+    go true true n = refl
+    go true false n = absurd (n refl)
+    go false u n = absurd (n refl)
+
+front : (b : List ℕ) → Bytes b → (sizeHere b ≡ 0 → ⊥) → encode (orderHere b) ≡ take (sizeHere b) b
+front b bytes some =
+    let h = here b refl some in
+    let s = size-said b some in
+    rw s (written-record b bytes (rw (h .said) (h .size)) (word b 2) refl (h .said) (h .known .0) (h .known .1))
+
+nothing : (b : List ℕ) → length b ≡ 0 → [] ≡ b
+nothing [] e = refl
+nothing (x ∷ b) e = absurd (omega arith)
+
+written-again : (n : ℕ) (b : List ℕ) → Bytes b → splits n b ≡ true → encodeAll (ordersIn n b) ≡ b
+unfolding splits ordersIn encodeAll
+written-again zero b bytes e = nothing b (eqb-true (length b) 0 e)
+written-again (suc n) b bytes e =
+    go (eqb (length b) 0) (eqb (sizeHere b) 0) refl refl e
+    (written-again n (drop (sizeHere b) b) (λ i. rw (getD-drop (sizeHere b) b i 0) (bytes (sizeHere b + i))))
+  where
+    go : (t u : Bool) → eqb (length b) 0 ≡ t → eqb (sizeHere b) 0 ≡ u
+        → cond t true (cond u false (splits n (drop (sizeHere b) b))) ≡ true
+        → (splits n (drop (sizeHere b) b) ≡ true → encodeAll (ordersIn n (drop (sizeHere b) b)) ≡ drop (sizeHere b) b)
+        → encodeAll (cond t [] (orderHere b ∷ ordersIn n (drop (sizeHere b) b))) ≡ b
+    go true u p q f rest = nothing b (eqb-true (length b) 0 p)
+    go false true p q f rest = absurd (false≢true f)
+    go false false p q f rest =
+        ap₂ (λ (x y : List ℕ). x ++ y) (front b bytes (eqb-false (sizeHere b) 0 q)) (rest f) ∙ take-append-drop (sizeHere b) b
+
+-- the theorem: a job file that splits is its records, written one after the other
+pub decoded : (job : List ℕ) → Bytes job → isJob job ≡ true → encodeAll (ordersOf job) ≡ job
+unfolding isJob ordersOf
+decoded job bytes is = written-again (length job) job bytes (and-right (leb (length job) 65536) _ is)
