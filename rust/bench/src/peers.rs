@@ -37,7 +37,8 @@ pub fn compare(rounds: usize, boards: impl Iterator<Item = (&'static str, Board)
 
 fn start(rounds: usize) -> std::io::Result<Child> {
     let script = concat!(env!("CARGO_MANIFEST_DIR"), "/src/peers.py");
-    Command::new("python3").arg(script).arg(rounds.to_string()).stdin(Stdio::piped()).stdout(Stdio::piped()).spawn()
+    // Debian's Python, which has Debian's packages
+    Command::new("/usr/bin/python3").arg(script).arg(rounds.to_string()).stdin(Stdio::piped()).stdout(Stdio::piped()).spawn()
 }
 
 /// The library's shortest time, in nanoseconds a pixel.
