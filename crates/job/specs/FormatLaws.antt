@@ -12,7 +12,30 @@ use lib.Seq.{drop-drop, getD-drop, drop-append-seam}
 use borrow.Author.Tests.{eq-eqb, ne-eqb, leb-true, le-leb}
 use Rattle.raster.specs.Tests.{and-right, cond-ind}
 use Rattle.job.specs.declared.Counted.{Counted}
-use Rattle.job.specs.Format.{Order, opening, paint, erase, build, place, run, lift, expand, shrink, word, long, sizeOf, sizeHere, orderHere, splits, ordersIn, isJob, ordersOf, splitOf, encode, encodeAll}
+use Rattle.job.specs.Format.{
+  Order,
+  opening,
+  paint,
+  erase,
+  build,
+  place,
+  run,
+  lift,
+  expand,
+  shrink,
+  word,
+  long,
+  sizeOf,
+  sizeHere,
+  orderHere,
+  splits,
+  ordersIn,
+  isJob,
+  ordersOf,
+  splitOf,
+  encode,
+  encodeAll,
+}
 
 -- two bytes beside each other, read from a part of the bytes
 pub word-drop : (bytes : List ℕ) (at i : ℕ) {low high : ℕ} → low ≡ getD bytes (at + i) 0 → high ≡ getD bytes ((at + i) + 1) 0

@@ -14,8 +14,6 @@ use Rattle.session.specs.Calls.{onDone, openAnswer, fillAnswer, filledBy, build
 use Rattle.session.specs.State.{openedAs, stale}
 use Rattle.raster.specs.Map.{unmapped}
 use Rattle.raster.specs.Sheet.{bare}
-use Rattle.guarantee.specs.Board as calls
-use Rattle.guarantee.specs.World.{world, answer}
 use Rattle.job.specs.Format.{Order, word, long, sizeOf, splits, ordersIn, ordersOf}
 use Rattle.job.specs.Text.{textFrom}
 use Rattle.job.specs.declared.Done.{Done}

@@ -36,12 +36,6 @@ upto-drop n l e = elim (decLe n (length l)) [
   | no h ↦ let b : length l ≤ n = omega arith in rw (e, lt-leb n (length l) (omega arith), drop-of-length-le l b, drop-length)
 ]
 
-pub upto-within : (n k : ℕ) {r : ℕ} → r ≡ upto n k → r ≤ k
-upto-within n k e = elim (decLe n k) [
-  | yes h ↦ rw (e, le-leb n k h) h
-  | no h ↦ rw (e, lt-leb n k (omega arith)) (omega arith)
-]
-
 -- a part of n elements came back as p
 module _ {A : Type 0} (n : ℕ) (l p : List A) (same : length p ≡ length (take n l)) where
   pub part-lent : take n (p ++ drop n l) ≡ p

@@ -1,4 +1,5 @@
-// The job file (document 01): splitting its bytes into records, and running them through a session. No public call asks anything of its caller: any bytes, any lengths.
+// The job file (document 01): splitting its bytes into records, and running them through a session. No public call asks anything of its caller: any bytes,
+// any lengths.
 ghost use mathlib.Core.Path.{_≡_};
 ghost use mathlib.Core.Bool.{true};
 ghost use mathlib.Core.List.{[], _∷_};
@@ -36,6 +37,7 @@ struct Done {
 
 // ---- reading a record
 
+// A byte as a 16-bit number, and a 16-bit number as one of 32.
 fn wide(byte: u8) -> u16
     ensures { λ r. ⌜ (r ≡ byte) × (r ≤ 255) ⌝ }
 {
@@ -198,12 +200,14 @@ fn first_pairs(n: usize, len: usize) -> usize
     len
 }
 
+// The pixels of a sheet.
 fn area(w: u16, h: u16) -> usize
     ensures { λ r. ⌜ r ≡ h * w ⌝ }
 {
     (h as usize) * (w as usize)
 }
 
+// 1: an opening is lent as much as its sheet needs; if it is refused, the former parts stay.
 fn obey_open(s: Session, n: usize, job: &[u8], at: usize, sheet: &mut [u8]) -> Done
     requires { ⌜ (at + 8 ≤ length (now job)) × (n ≤ length (now sheet)) ⌝ }
     ensures { λ r. ⌜ Opened (drop at (now (job .entry))) s n (now (sheet .entry)) r (now (sheet .exit)) ⌝ }
@@ -227,6 +231,7 @@ fn obey_open(s: Session, n: usize, job: &[u8], at: usize, sheet: &mut [u8]) -> D
     }
 }
 
+// 2.
 fn obey_paint(s: Session, n: usize, job: &[u8], at: usize, sheet: &mut [u8]) -> Reply
     requires { ⌜ (at + 12 ≤ length (now job)) × (n ≤ length (now sheet)) ⌝ }
     ensures { λ r. ⌜ Filled 1 (drop at (now (job .entry))) s n (now (sheet .entry)) r (now (sheet .exit)) ⌝ }
@@ -238,6 +243,7 @@ fn obey_paint(s: Session, n: usize, job: &[u8], at: usize, sheet: &mut [u8]) -> 
     s.paint(&mut sheet[..n], x, y, cols, rows)
 }
 
+// 3.
 fn obey_erase(s: Session, n: usize, job: &[u8], at: usize, sheet: &mut [u8]) -> Reply
     requires { ⌜ (at + 12 ≤ length (now job)) × (n ≤ length (now sheet)) ⌝ }
     ensures { λ r. ⌜ Filled 0 (drop at (now (job .entry))) s n (now (sheet .entry)) r (now (sheet .exit)) ⌝ }
@@ -249,6 +255,7 @@ fn obey_erase(s: Session, n: usize, job: &[u8], at: usize, sheet: &mut [u8]) -> 
     s.erase(&mut sheet[..n], x, y, cols, rows)
 }
 
+// 4: a map or scratch buffer that is too short is lent whole, for the session to refuse.
 fn obey_build(
     s: Session,
     n: usize,
@@ -272,6 +279,7 @@ fn obey_build(
     )
 }
 
+// 5.
 fn obey_place(s: Session, n: usize, job: &[u8], at: usize, map: &[i16]) -> Reply
     requires { ⌜ at + 12 ≤ length (now job) ⌝ }
     ensures { λ r. ⌜ r .answer ≡ placeAnswer s (take (2 * n) (now (map .entry))) (word (drop at (now (job .entry))) 4) (word (drop at (now (job .entry))) 6) (long (drop at (now (job .entry))) 8) ⌝ }
@@ -284,6 +292,7 @@ fn obey_place(s: Session, n: usize, job: &[u8], at: usize, map: &[i16]) -> Reply
     s.place(&map[..numbers], x, y, q)
 }
 
+// 6.
 fn obey_run(s: Session, n: usize, job: &[u8], at: usize, map: &[i16]) -> Reply
     requires { ⌜ at + 8 ≤ length (now job) ⌝ }
     ensures { λ r. ⌜ r .answer ≡ runAnswer s (take (2 * n) (now (map .entry))) (word (drop at (now (job .entry))) 4) (word (drop at (now (job .entry))) 6) ⌝ }
@@ -295,6 +304,7 @@ fn obey_run(s: Session, n: usize, job: &[u8], at: usize, map: &[i16]) -> Reply
     s.run(&map[..numbers], direction, count)
 }
 
+// 8.
 fn obey_expand(
     s: Session,
     n: usize,
@@ -318,6 +328,7 @@ fn obey_expand(
     )
 }
 
+// 9.
 fn obey_shrink(
     s: Session,
     n: usize,
@@ -341,7 +352,7 @@ fn obey_shrink(
     )
 }
 
-// Any record but an opening.
+// Any record but an opening; 7 is a lift.
 fn act(
     s: Session,
     n: usize,

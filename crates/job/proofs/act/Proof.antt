@@ -78,7 +78,8 @@ returns-4 c =
     let i = p .before .before in
     let w = i .before .before .before .before in
     let t = w .before .before .before in
-    rw (is-place (drop (t .args .at) (t .args .job .now)) (sym (w .word-at .ensures) ∙ i .if4 .taken)) (record { answer = p .obey-place .ensures .0; left = rw (← p .obey-place .ensures .0, p .obey-place .ensures .1) })
+    rw (is-place (drop (t .args .at) (t .args .job .now)) (sym (w .word-at .ensures) ∙ i .if4 .taken))
+    (record { answer = p .obey-place .ensures .0; left = rw (← p .obey-place .ensures .0, p .obey-place .ensures .1) })
 
 obey-run-requires : tie.Need-obey-run-requires
 unfolding sizeOf
@@ -94,7 +95,8 @@ returns-5 c =
     let i = p .before .before in
     let w = i .before .before .before .before .before in
     let t = w .before .before .before in
-    rw (is-run (drop (t .args .at) (t .args .job .now)) (sym (w .word-at .ensures) ∙ i .if5 .taken)) (record { answer = p .obey-run .ensures .0; left = rw (← p .obey-run .ensures .0, p .obey-run .ensures .1) })
+    rw (is-run (drop (t .args .at) (t .args .job .now)) (sym (w .word-at .ensures) ∙ i .if5 .taken))
+    (record { answer = p .obey-run .ensures .0; left = rw (← p .obey-run .ensures .0, p .obey-run .ensures .1) })
 
 returns-6 : tie.Need-returns-6
 returns-6 c =
@@ -102,7 +104,8 @@ returns-6 c =
     let i = p .before in
     let w = i .before .before .before .before .before .before in
     let t = w .before .before .before in
-    rw (is-lift (drop (t .args .at) (t .args .job .now)) (sym (w .word-at .ensures) ∙ i .if6 .taken)) (record { answer = p .lift .ensures .0; left = rw (p .lift .ensures .1) })
+    rw (is-lift (drop (t .args .at) (t .args .job .now)) (sym (w .word-at .ensures) ∙ i .if6 .taken))
+    (record { answer = p .lift .ensures .0; left = rw (p .lift .ensures .1) })
 
 obey-expand-requires : tie.Need-obey-expand-requires
 unfolding sizeOf

@@ -80,8 +80,10 @@ returns : tie.Need-returns Inv-loop μ-loop
 returns c =
     let l = c .before in
     let t = l .before .before .before .before .before in
-    let r = l .loop .inv .0 in
-    (running-end r (c .loop-test .left) (rw (l .loop .inv .1 .1 .1 .1 .1) (t .pre .1)), buffers (l .loop .s) (l .loop .n) (l .loop .sheet) (l .loop .map) (l .loop .scratch) (running-left r (c .loop-test .left)))
+    let r = l .loop .inv .0 in (
+      running-end r (c .loop-test .left) (rw (l .loop .inv .1 .1 .1 .1 .1) (t .pre .1)),
+      buffers (l .loop .s) (l .loop .n) (l .loop .sheet) (l .loop .map) (l .loop .scratch) (running-left r (c .loop-test .left)),
+    )
 
 pub run-all-spec : {M : Type 1} → statement M
 run-all-spec =
