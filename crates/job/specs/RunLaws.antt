@@ -31,14 +31,13 @@ use Rattle.session.specs.Calls.{
   readAnswer,
 }
 use Rattle.guarantee.specs.Board as calls
-use Rattle.guarantee.specs.Board.{blank}
-use Rattle.guarantee.specs.Claims.{leftBy, Guarantee, Holds}
+use Rattle.guarantee.specs.Claims.{leftBy}
 use Rattle.guarantee.specs.World.{World, answer}
 use Rattle.job.specs.Format.{Order, sizeHere, orderHere, ordersIn, isJob, ordersOf}
 use Rattle.job.specs.FormatLaws.{size-fits, splits-turn, orders-turn, splits-not, orders-end}
 use Rattle.job.specs.Text.{line, textFrom, Put}
 use Rattle.job.specs.TextLaws.{nine-bytes}
-use Rattle.job.specs.Run.{Bench, startOf, benchOf, callOf, callsOf, benchAfter, answersOf, reportOf, stepped, roomFor, ranAnswer}
+use Rattle.job.specs.Run.{Bench, benchOf, callOf, callsOf, benchAfter, answersOf, reportOf, stepped, roomFor, ranAnswer}
 use Rattle.job.specs.Obey.{Here, Obeyed, Left, Running}
 use Rattle.job.specs.ObeyLaws.{here}
 
@@ -191,8 +190,3 @@ pub calls-leave : (os : List Order) (b : Bench) → benchAfter os b .world ≡ l
 unfolding benchAfter callsOf
 calls-leave [] b = refl
 calls-leave (o ∷ rest) b = calls-leave rest (stepped o b)
-
--- so demand 3, once it is shown for every list, is shown for every job
-pub guaranteed : Guarantee → (os : List Order) (sheet : List ℕ) (map scratch : List ℤ)
-    → Holds (callsOf os (startOf sheet map scratch)) blank (startOf sheet map scratch .world)
-guaranteed all os sheet map scratch = all (callsOf os (startOf sheet map scratch)) [] []
