@@ -10,6 +10,7 @@ use lib.IntN.{ℤ}
 use borrow.Author.Tests.{eqb-true, eqb-false, ne-eqb}
 use Rattle.raster.specs.RefusalLaws.{never}
 use Rattle.session.specs.declared.Session.{Session}
+use Rattle.session.proofs.Granted.{before-35}
 use Rattle.session.specs.Calls.{lastOf, openAnswer, fillAnswer, buildRefusal, placeRefusal, runRefusal, resizeAnswer, readAnswer}
 
 -- neither 34 nor 35
@@ -27,7 +28,7 @@ fill-quiet s sheet x y cols rows = record { no-34 = never 34 _ (omega arith) ref
 
 pub build-quiet : (s : Session) (sheet : List ℕ) (map scratch : List ℤ) (e : ℕ) → Quiet (buildRefusal s sheet map scratch e)
 unfolding buildRefusal
-build-quiet s sheet map scratch e = record { no-34 = never 34 _ (omega arith) refl; no-35 = never 35 _ (omega arith) refl }
+build-quiet s sheet map scratch e = record { no-34 = never 34 _ (omega arith) refl; no-35 = before-35 s sheet map scratch e }
 
 pub place-quiet : (s : Session) (map : List ℤ) (x y q : ℕ) → Quiet (placeRefusal s map x y q)
 unfolding placeRefusal

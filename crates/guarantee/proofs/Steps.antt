@@ -13,7 +13,6 @@ use borrow.Author.Tests.{eqb-true, eqb-false, ne-eqb, leb-true, not-true, not-fa
 use Rattle.raster.specs.LoopLaws.{some-found, some-false}
 use Rattle.raster.specs.Distance.{Clear}
 use Rattle.raster.specs.Pixels.{Mask, index}
-use Rattle.raster.specs.RefusalLaws.{passed}
 use Rattle.raster.specs.Tests.{and-left}
 use Rattle.raster.specs.Sheet.{copperOf, bare, covers}
 use Rattle.raster.specs.Map.{unmapped}
@@ -23,7 +22,7 @@ use Rattle.session.specs.State.{side, active, openedAs, stale, builtBy, downAt}
 use Rattle.session.specs.Directions.{columnAfter, rowAfter}
 use Rattle.session.specs.Calls as session
 use Rattle.session.specs.Calls.{openAnswer, buildAnswer, placeAnswer, runAnswer, blocked}
-use Rattle.session.proofs.Granted.{fill-granted, build-granted, Building, place-granted, run-granted, Running, on-the-way, resize-granted}
+use Rattle.session.proofs.Granted.{open-granted, fill-granted, build-granted, Building, place-granted, run-granted, Running, on-the-way, resize-granted}
 use Rattle.guarantee.specs.Board.{Lent, Call, opening, paint, erase, build, place, run, lift, expand, shrink, skeleton, rebuild, aside, Cutter, up, down, Board, recoppered, withCutter, moved, done, feed}
 use Rattle.guarantee.specs.World.{World, world, lentTo, answer, after}
 use Rattle.guarantee.specs.Claims.{Along, Close, Stopped, Claim, SameCutter, Free}
@@ -40,12 +39,6 @@ no-34 : {a : ℕ} → Quiet a → a ≡ 34 → ⊥
 no-34 {a} q e = eqb-false a 34 (q .no-34) e
 
 -- ---- open
-
-open-granted : (sheet : List ℕ) (w h : ℕ) → openAnswer sheet w h ≡ 0 → (side w && side h ≡ true) × (length sheet ≡ h * w)
-unfolding openAnswer
-open-granted sheet w h e =
-    let past-sides = passed (not (side w && side h)) 11 _ (omega arith) e in
-    (not-false _ (past-sides .0), eqb-true _ _ (not-false _ (passed (not (eqb (length sheet) (h * w))) 12 _ (omega arith) (past-sides .1) .0)))
 
 open-inv : (b : Board) (x y : ℕ) (sheet : List ℕ) (map : List ℤ) → side x && side y ≡ true → length sheet ≡ y * x
     → Inv (done (opening x y Option.none) b) (world (openedAs x y) (bare sheet) map)

@@ -2,7 +2,7 @@
 -- Assumes nothing.
 use mathlib.Core.Path.{_≡_, refl, sym, ap, _∙_}
 use mathlib.Core.List.{List, _++_, append-nil}
-use mathlib.Core.Bool.{Bool, true, false, cond, not, _&&_}
+use mathlib.Core.Bool.{Bool, true, false, cond, _&&_}
 use Prim.Native.Nat.{ℕ, _+_, _*_, _≤_}
 use native.Mathlib.Decide.{decLe}
 use native.Mathlib.Omega.{arith}
@@ -10,11 +10,8 @@ use lib.IntN.{ℤ}
 use lib.ListN.{length, take, drop, length-drop, drop-of-length-le, take-append-drop}
 use lib.Seq.{take-all, take-at, drop-at, length-take-le, take-length, drop-length}
 use lib.Dec.{eqb, leb}
-use borrow.Author.Tests.{le-leb, lt-leb, ne-eqb, eqb-true, leb-true, not-false}
-use Rattle.raster.specs.RefusalLaws.{passed}
+use borrow.Author.Tests.{le-leb, lt-leb, ne-eqb, eqb-true, leb-true}
 use Rattle.raster.specs.Tests.{and-left, and-right, cond-ind}
-use Rattle.session.specs.State.{side}
-use Rattle.session.specs.Calls.{openAnswer}
 use Rattle.session.specs.declared.Session.{Session}
 use Rattle.session.specs.declared.Reply.{Reply}
 use Rattle.morphology.specs.Resize.{expanded, shrunk}
@@ -63,13 +60,6 @@ module _ {A : Type 0} (n : ℕ) (l p : List A) {r : ℕ} (e : r ≡ upto n (leng
 
   pub upto-behind : drop n (p ++ drop r l) ≡ drop n l
   upto-behind = rw (upto-drop n l e) (part-behind n l p (same ∙ ap length (upto-take n l e)))
-
--- an opening that is done was lent a byte a pixel
-pub open-length : (sheet : List ℕ) (w h : ℕ) → openAnswer sheet w h ≡ 0 → length sheet ≡ h * w
-unfolding openAnswer
-open-length sheet w h e =
-    let t = passed (not (side w && side h)) 11 _ (omega arith) e .1 in
-    eqb-true (length sheet) (h * w) (not-false _ (passed (not (eqb (length sheet) (h * w))) 12 _ (omega arith) t .0))
 
 -- ---- a whole record of a known kind
 

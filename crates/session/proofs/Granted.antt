@@ -10,13 +10,13 @@ use lib.Dec.{eqb, leb, ltb}
 use lib.IntN.{ℤ}
 use lib.ListN.{length}
 use borrow.Author.Tests.{leb-true, ltb-true, leb-false, ltb-false, eqb-true, not-false}
-use Rattle.raster.specs.Limits.{maxSide, maxQ, maxReach}
+use Rattle.raster.specs.Limits.{maxSide, maxQ}
 use Rattle.raster.specs.RefusalLaws.{passed, never}
 use Rattle.raster.specs.Tests.{and-left, and-right, or-left, or-right}
 use Rattle.session.specs.declared.Session.{Session}
-use Rattle.session.specs.State.{side, cutterSound, mapSound, sheetSound, sound, active}
+use Rattle.session.specs.State.{side, maxCount, cutterSound, mapSound, sheetSound, sound, active}
 use Rattle.session.specs.Directions.{stepRight, stepDown, leaves}
-use Rattle.session.specs.Calls.{notSheet, notMap, shortScratch, fillAnswer, buildRefusal, placeRefusal, runRefusal, OnSheet, resizeAnswer, readAnswer}
+use Rattle.session.specs.Calls.{notSheet, notMap, shortScratch, openAnswer, fillAnswer, buildRefusal, placeRefusal, runRefusal, OnSheet, resizeAnswer, readAnswer}
 use Rattle.session.proofs.Signs.{stays, between}
 
 -- an active session's sides are within their limit, and so is the number of its pixels
@@ -38,6 +38,14 @@ active-limits s e =
     let across = side-limit (s .width) (and-left (side (s .width)) _ both) in
     let down = side-limit (s .height) (and-right (side (s .width)) _ both) in
     record { some = leb-true 1 (s .width) (and-left (leb 1 (s .width)) _ (and-left (side (s .width)) _ both)); wide = across; high = down; pixels = omega (arith, mul-le-mul down across) }
+
+-- ---- open
+
+pub open-granted : (sheet : List ℕ) (w h : ℕ) → openAnswer sheet w h ≡ 0 → (side w && side h ≡ true) × (length sheet ≡ h * w)
+unfolding openAnswer
+open-granted sheet w h done =
+    let past-sides = passed (not (side w && side h)) 11 _ (omega arith) done in
+    (not-false _ (past-sides .0), eqb-true _ _ (not-false _ (passed (not (eqb (length sheet) (h * w))) 12 _ (omega arith) (past-sides .1) .0)))
 
 -- ---- paint and erase
 
@@ -137,10 +145,10 @@ unfolding runRefusal sound cutterSound
 run-granted s map d n table done =
     let past-state = passed (not (active s)) 30 _ (omega arith) (sym table ∙ done) in
     let past-map = passed (notMap s map) 12 _ (omega arith) (past-state .1) in
-    let past-numbers = passed (ltb 7 d || not (leb 1 n && leb n maxReach)) 17 _ (omega arith) (past-map .1) in
+    let past-numbers = passed (ltb 7 d || not (leb 1 n && leb n maxCount)) 17 _ (omega arith) (past-map .1) in
     let past-cutter = passed (not (s .lowered)) 32 _ (omega arith) (past-numbers .1) in
     let stays-on = passed (leaves (stepRight d) (s .width) n (s .x) || leaves (stepDown d) (s .height) n (s .y)) 33 _ (omega arith) (past-cutter .1) .0 in
-    let counted : leb 1 n && leb n maxReach ≡ true = not-false _ (or-right (ltb 7 d) _ (past-numbers .0)) in
+    let counted : leb 1 n && leb n maxCount ≡ true = not-false _ (or-right (ltb 7 d) _ (past-numbers .0)) in
     let fine : sound s ≡ true = and-right (s .opened) _ (not-false _ (past-state .0)) in
     let lowered : s .lowered ≡ true = not-false _ (past-cutter .0) in
     let down = rw lowered at (and-right (mapSound s) _ (and-right (sheetSound s) _ fine)) in

@@ -9,7 +9,7 @@ use lib.Dec.{eqb, leb, ltb}
 use lib.IntN.{ℤ}
 use lib.ListN.{length, take, drop}
 use Rattle.raster.specs.Gate.{Gate, passes}
-use Rattle.raster.specs.Limits.{maxQ, maxReach}
+use Rattle.raster.specs.Limits.{maxQ}
 use Rattle.raster.specs.Loop.{some}
 use Rattle.raster.specs.Map.{dxAt, dyAt, sizeAt, unmapped, hasCopper}
 use Rattle.raster.specs.Pixels.{index}
@@ -19,7 +19,7 @@ use Rattle.raster.specs.Vector.{unlabelled}
 use Rattle.scan.specs.Scan as scan
 use Rattle.exact.specs.Nearest as exact
 use Rattle.session.specs.declared.Session.{Session}
-use Rattle.session.specs.State.{fresh, side, sound, active, stale, builtBy, downAt, upOf}
+use Rattle.session.specs.State.{fresh, side, maxCount, sound, active, stale, builtBy, downAt, upOf}
 use Rattle.session.specs.Directions.{stepRight, stepDown, leaves, columnAfter, rowAfter}
 
 -- done: the new value; refused: the old one
@@ -113,7 +113,7 @@ unfoldable pub runRefusal : Session → List ℤ → (direction count : ℕ) →
 runRefusal s map d n = firstOf
     ((not (active s), 30)
     ∷ (notMap s map, 12)
-    ∷ (ltb 7 d || not (leb 1 n && leb n maxReach), 17)
+    ∷ (ltb 7 d || not (leb 1 n && leb n maxCount), 17)
     ∷ (not (s .lowered), 32)
     ∷ (leaves (stepRight d) (s .width) n (s .x) || leaves (stepDown d) (s .height) n (s .y), 33)
     ∷ [])

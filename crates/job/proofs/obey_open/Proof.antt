@@ -9,7 +9,8 @@ use lib.Seq.{length-take-le, length-front}
 use borrow.Author.Needs.{needs}
 use borrow.Author.Tests.{ne-eqb}
 use Rattle.job.specs.Obey.{upto}
-use Rattle.job.specs.ObeyLaws.{part-lent, part-behind, upto-take, open-length}
+use Rattle.job.specs.ObeyLaws.{part-lent, part-behind, upto-take}
+use Rattle.session.proofs.Granted.{open-granted}
 use Rattle.job.proofs.obey_open.Statement.{statement}
 use Rattle.job.proofs.obey_open.Tie as tie
 
@@ -32,7 +33,7 @@ returns c =
     let area : p ≡ upto (h .word-at2 .result * w .word-at .result) (length sheet) = rw (← f .before .area .ensures) (f .first .ensures .0) in
     let granted = sym (o .open-sheet .ensures .0) ∙ zero in
     let pixels : p ≡ h .word-at2 .result * w .word-at .result =
-    sym (length-take-le p sheet (f .first .ensures .1)) ∙ open-length (take p sheet) (w .word-at .result) (h .word-at2 .result) granted in
+    sym (length-take-le p sheet (f .first .ensures .1)) ∙ open-granted (take p sheet) (w .word-at .result) (h .word-at2 .result) granted .1 in
     record {
       answer = rw (← w .word-at .ensures, ← h .word-at2 .ensures, ← upto-take (h .word-at2 .result * w .word-at .result) sheet area) (sym granted);
       session = rw (← w .word-at .ensures, ← h .word-at2 .ensures) (rw zero at (o .open-sheet .ensures .1 .0));

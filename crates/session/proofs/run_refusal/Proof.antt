@@ -8,10 +8,9 @@ use lib.Dec.{eqb, leb, ltb}
 use lib.ListN.{length}
 use borrow.Author.Needs.{needs}
 use borrow.Author.Tests.{eq-eqb, ne-eqb, ltb-false, not-false}
-use Rattle.raster.specs.Limits.{maxReach}
 use Rattle.raster.specs.Refusal.{firstOf}
 use Rattle.raster.specs.Tests.{or-left}
-use Rattle.session.specs.State.{active}
+use Rattle.session.specs.State.{maxCount, active}
 use Rattle.session.specs.Directions.{stepRight, stepDown, leaves}
 use Rattle.session.specs.Calls.{runRefusal}
 use Rattle.session.proofs.Granted.{active-limits}
@@ -54,7 +53,7 @@ known : (c : tie.Else3) → c .before .before .before .before .before .args .d �
 known c =
     let d = c .before .before .before .before .before .args .d in
     let n = c .before .before .before .before .before .args .n in
-    ltb-false 7 d (or-left (ltb 7 d) (not (leb 1 n && leb n maxReach)) (c .if3 .left))
+    ltb-false 7 d (or-left (ltb 7 d) (not (leb 1 n && leb n maxCount)) (c .if3 .left))
 
 -- what the last test looks at
 off : (c : tie.After-is-leaving2) → let l = c .before .before in
