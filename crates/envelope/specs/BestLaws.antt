@@ -4,11 +4,10 @@ use Prim.Native.Nat.{ℕ, zero, suc, _+_, _-_, _*_, _<_, _≤_}
 use native.Mathlib.Omega.{arith}
 use native.Mathlib.Decide.{decLt, ℕ-discrete}
 use native.Mathlib.Nat.{mul-le-mul}
-use mathlib.Core.Path.{_≡_, refl, sym, ap, _∙_}
+use mathlib.Core.Path.{_≡_, refl, ap}
 use mathlib.Core.Logic.{_⊎_, inl, inr, ⊎-elim}
 use mathlib.Core.List.{List}
 use lib.ListN.{getD}
-use lib.Dec.{ltb}
 use borrow.Author.Tests.{lt-ltb, le-ltb, eq-eqb, ne-eqb}
 use Rattle.raster.specs.DistanceLaws.{gap-square}
 use Rattle.envelope.specs.Best.{priceOf, price, Site, better, bestSite}
@@ -25,24 +24,6 @@ area a b h k = omega (arith, mul-le-mul {n₁ = a} {m₁ = b} {n₂ = 2047} {m�
 pub price-sum : (x k g : ℕ) → priceOf x k g + 2 * (x * k) ≡ x * x + k * k + g
 unfolding priceOf
 price-sum x k g = omega (arith, gap-square x k)
-
--- beating goes on to the right: a later site that costs less at x costs less at every place beyond
-pub onward : (s g k h x y : ℕ) → s ≤ k → x ≤ y → priceOf x k h < priceOf x s g → priceOf y k h < priceOf y s g
-onward s g k h x y l m b =
-    let d : s + (k - s) ≡ k = omega arith in
-    let e : x + (y - x) ≡ y = omega arith in
-    omega (arith, price-sum x k h, price-sum x s g, price-sum y k h, price-sum y s g, ap (λ (t : ℕ). (y - x) * t) d, ap (λ (t : ℕ). t * s) e, ap (λ (t : ℕ). t * k) e)
-
--- two tests that say the same
-test-eq : (a b c d : ℕ) → (a < b → c < d) → (b ≤ a → d ≤ c) → ltb a b ≡ ltb c d
-test-eq a b c d f g = ⊎-elim (λ h. lt-ltb a b h ∙ sym (lt-ltb c d (f h))) (λ h. le-ltb a b h ∙ sym (le-ltb c d (g h))) (order a b)
-
--- the test without the gap
-pub tested : (x s g k h : ℕ) {kk xs ss xk : ℕ} → kk ≡ k * k → xs ≡ x * s → ss ≡ s * s → xk ≡ x * k → ltb (kk + h + 2 * xs) (ss + g + 2 * xk) ≡ ltb (priceOf x k h) (priceOf x s g)
-tested x s g k h {kk} {xs} {ss} {xk} p q r t =
-    test-eq (kk + h + 2 * xs) (ss + g + 2 * xk) (priceOf x k h) (priceOf x s g)
-    (λ m. omega (arith, price-sum x k h, price-sum x s g))
-    (λ m. omega (arith, price-sum x k h, price-sum x s g))
 
 -- `better` by cases
 module _ (G : List ℕ) (x b k : ℕ) where

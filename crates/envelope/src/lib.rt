@@ -4,14 +4,14 @@
 // At x the site k costs (x - k)^2 + cost[k]. `build` leaves a stack of entries in which every x is held by the site of least
 // cost, among equals the least site (`bestSite` of specs/Best.antt): the last entry whose start is at most x holds it.
 //
-// It goes through the sites from the left: entry j says that site[j] is the best so far from start[j] on, up to the next
-// entry's start.
+// The sites that are best somewhere are corners of the lower convex hull of the points (k, k^2 + cost[k]). `hull` goes through
+// the sites from the left and stacks the corners so far; `starts` then divides once for each that is left.
 ghost use mathlib.Core.Path.{_≡_};
-ghost use Prim.Native.Nat.{_+_, _*_, _<_, _≤_};
+ghost use Prim.Native.Nat.{_+_, _-_, _*_, _/_, _<_, _≤_};
 ghost use lib.ListN.{length, getD};
-ghost use lib.Dec.{ltb};
-ghost use Rattle.envelope.specs.Best.{priceOf, price, Site, Line};
-ghost use Rattle.envelope.specs.Stack.{Pair, crossing, Entries, From, Popped, Built};
+ghost use Rattle.envelope.specs.Best.{Site, Line};
+ghost use Rattle.envelope.specs.Stack.{Built};
+ghost use Rattle.envelope.specs.Hull.{heightOf, over, crossing, Hull, Popped, Started};
 
 // Two places multiplied.
 fn times(a: usize, b: usize) -> usize
@@ -19,6 +19,14 @@ fn times(a: usize, b: usize) -> usize
     ensures { λ r. ⌜ (r ≡ a * b) × (r < 4194304) ⌝ }
 {
     a * b
+}
+
+// A height times a distance on the line.
+fn scaled(v: usize, d: usize) -> usize
+    requires { ⌜ (v < 4299161600) × (d < 2048) ⌝ }
+    ensures { λ r. ⌜ (r ≡ v * d) × (r < 8804682956800) ⌝ }
+{
+    v * d
 }
 
 // An element of a working slice.
@@ -32,109 +40,126 @@ pub fn place(s: &[u16], i: usize) -> usize
 // A cost.
 fn cost_at(s: &[u32], i: usize) -> usize
     requires { ⌜ i < length (now s) ⌝ }
-    ensures { λ r. ⌜ r ≡ getD (now (s .entry)) i 0 ⌝ }
+    ensures { λ r. ⌜ (r ≡ getD (now (s .entry)) i 0) × (r < 4294967296) ⌝ }
 {
     s[i] as usize
 }
 
-// Whether at x the site k, with cost h, costs less than the site s before it, with cost g.
-fn beats(x: usize, s: usize, g: usize, k: usize, h: usize) -> bool
-    requires { ⌜ x < 2048 ⌝ }
-    requires { ⌜ Pair s g k h ⌝ }
-    ensures { λ r. ⌜ r ≡ ltb (priceOf x k h) (priceOf x s g) ⌝ }
+// The height of the point of the place k.
+fn height(cost: &[u32], k: usize) -> usize
+    requires { ⌜ (k < 2048) × (k < length (now cost)) ⌝ }
+    ensures { λ r. ⌜ (r ≡ heightOf (now (cost .entry)) k) × (r < 4299161600) ⌝ }
 {
-    let later = times(k, k) + h + 2 * times(x, s);
-    let earlier = times(s, s) + g + 2 * times(x, k);
-    later < earlier
+    times(k, k) + cost_at(cost, k)
 }
 
-// The first place where the site k costs less than the site s before it.
-fn cross(s: usize, g: usize, k: usize, h: usize) -> usize
-    requires { ⌜ Pair s g k h ⌝ }
-    requires { ⌜ s * s + g ≤ k * k + h ⌝ }
-    ensures { λ r. ⌜ r ≡ crossing s g k h ⌝ }
+// Whether the point of b lies on or above the line through those of a and k.
+fn covers(cost: &[u32], a: usize, b: usize, k: usize) -> bool
+    requires { ⌜ (a < b) × ((b < k) × ((k < 2048) × (k < length (now cost)))) ⌝ }
+    ensures { λ r. ⌜ r ≡ over (now (cost .entry)) a b k ⌝ }
 {
-    (times(k, k) + h - (times(s, s) + g)) / (2 * (k - s)) + 1
+    let left = scaled(height(cost, a), k - b);
+    let right = scaled(height(cost, k), b - a);
+    right + left <= scaled(height(cost, b), k - a)
 }
 
-// Whether the site k costs less than entry j at the entry's start.
-fn loses(
-    cost: &[u32],
-    n: usize,
-    k: usize,
-    site: &[u16],
-    start: &[u16],
-    count: usize,
-    j: usize,
-) -> bool
-    requires { ⌜ Line (now cost) n (now site) (now start) ⌝ }
-    requires { ⌜ Entries (now cost) n k (now site) (now start) count ⌝ }
-    requires { ⌜ (k < n) × (Site (now cost) k × (j < count)) ⌝ }
-    ensures { λ r. ⌜ r ≡ ltb (price (now (cost .entry)) (getD (now (start .entry)) j 0) k) (price (now (cost .entry)) (getD (now (start .entry)) j 0) (getD (now (site .entry)) j 0)) ⌝ }
-{
-    let s = place(site, j);
-    beats(place(start, j), s, cost_at(cost, s), k, cost_at(cost, k))
-}
-
-// Takes off the entries that the site k beats at their start; the number of those left.
-fn popped(cost: &[u32], n: usize, k: usize, site: &[u16], start: &[u16], count: usize) -> usize
-    requires { ⌜ Line (now cost) n (now site) (now start) ⌝ }
-    requires { ⌜ Built (now cost) n k (now site) (now start) count ⌝ }
-    requires { ⌜ (k < n) × Site (now cost) k ⌝ }
-    ensures { λ r. ⌜ Popped (now (cost .entry)) n k (now (site .entry)) (now (start .entry)) count r ⌝ }
+// Takes off the corners that are none once the site k has come; the number of those left. `top` is the site of the last.
+fn popped(cost: &[u32], n: usize, k: usize, site: &[u16], count: usize, top: usize) -> usize
+    requires { ⌜ (n ≤ 2048) × ((n ≤ length (now cost)) × (n ≤ length (now site))) ⌝ }
+    requires { ⌜ Hull (now cost) k (now site) count ⌝ }
+    requires { ⌜ (k < n) × (Site (now cost) k × (0 < count → top ≡ getD (now site) (count - 1) 0)) ⌝ }
+    ensures { λ r. ⌜ Popped (now (cost .entry)) k (now (site .entry)) count r ⌝ }
 {
     let mut c = count;
-    while 0 < c {
-        if loses(cost, n, k, site, start, count, c - 1) {
+    let mut b = top;
+    while 1 < c {
+        let a = place(site, c - 2);
+        if covers(cost, a, b, k) {
             c -= 1;
+            b = a;
         } else {
             return c;
         }
     }
-    c
-}
-
-// The first place that the site k holds, over the first c entries.
-fn from(
-    cost: &[u32],
-    n: usize,
-    k: usize,
-    site: &[u16],
-    start: &[u16],
-    count: usize,
-    c: usize,
-) -> usize
-    requires { ⌜ Line (now cost) n (now site) (now start) ⌝ }
-    requires { ⌜ Entries (now cost) n k (now site) (now start) count ⌝ }
-    requires { ⌜ Popped (now cost) n k (now site) (now start) count c ⌝ }
-    requires { ⌜ (k < n) × Site (now cost) k ⌝ }
-    ensures { λ r. ⌜ From (now (cost .entry)) n k (now (site .entry)) (now (start .entry)) c r ⌝ }
-{
     if c == 0 {
         return 0;
     }
-    let s = place(site, c - 1);
-    cross(s, cost_at(cost, s), k, cost_at(cost, k))
+    if height(cost, k) < height(cost, b) {
+        return 0;
+    }
+    1
 }
 
-// Adds the place k to the envelope of the sites below it; the number of entries.
-fn add(cost: &[u32], n: usize, k: usize, site: &mut [u16], start: &mut [u16], count: usize) -> usize
-    requires { ⌜ Line (now cost) n (now site) (now start) ⌝ }
-    requires { ⌜ Built (now cost) n k (now site) (now start) count ⌝ }
-    requires { ⌜ k < n ⌝ }
-    ensures { λ r. ⌜ Built (now (cost .entry)) n (k + 1) (now (site .exit)) (now (start .exit)) r ⌝ }
+// Adds the site k to the hull of the sites below it; the number of corners.
+fn push(cost: &[u32], n: usize, k: usize, site: &mut [u16], count: usize, top: usize) -> usize
+    requires { ⌜ (n ≤ 2048) × ((n ≤ length (now cost)) × (n ≤ length (now site))) ⌝ }
+    requires { ⌜ Hull (now cost) k (now site) count ⌝ }
+    requires { ⌜ (k < n) × (Site (now cost) k × (0 < count → top ≡ getD (now site) (count - 1) 0)) ⌝ }
+    ensures { λ r. ⌜ Hull (now (cost .entry)) (k + 1) (now (site .exit)) r ⌝ }
+    ensures { λ r. ⌜ getD (now (site .exit)) (r - 1) 0 ≡ k ⌝ }
 {
-    if cost_at(cost, k) >= 4294967295 {
-        return count;
-    }
-    let c = popped(cost, n, k, site, start, count);
-    let f = from(cost, n, k, site, start, count, c);
-    if f >= n {
-        return c;
-    }
+    let c = popped(cost, n, k, site, count, top);
     site[c] = k as u16;
-    start[c] = f as u16;
     c + 1
+}
+
+// The hull of all sites; the number of corners.
+fn hull(cost: &[u32], n: usize, site: &mut [u16]) -> usize
+    requires { ⌜ (n ≤ 2048) × ((n ≤ length (now cost)) × (n ≤ length (now site))) ⌝ }
+    ensures { λ r. ⌜ Hull (now (cost .entry)) n (now (site .exit)) r ⌝ }
+{
+    let mut count: usize = 0;
+    let mut top: usize = 0;
+    let mut k: usize = 0;
+    while k < n {
+        if cost_at(cost, k) < 4294967295 {
+            count = push(cost, n, k, site, count, top);
+            top = k;
+        }
+        k += 1;
+    }
+    count
+}
+
+// The first place where the site k, of height v, costs less than the site s before it, of height u.
+fn cross(s: usize, u: usize, k: usize, v: usize) -> usize
+    requires { ⌜ (s < k) × ((k < 2048) × ((u ≤ v) × (v < 4299161600))) ⌝ }
+    ensures { λ r. ⌜ r ≡ (v - u) / (2 * (k - s)) + 1 ⌝ }
+{
+    (v - u) / (2 * (k - s)) + 1
+}
+
+// The first place that entry j + 1 holds before entry j.
+fn start_of(cost: &[u32], n: usize, site: &[u16], count: usize, j: usize) -> usize
+    requires { ⌜ (n ≤ 2048) × ((n ≤ length (now cost)) × (n ≤ length (now site))) ⌝ }
+    requires { ⌜ Hull (now cost) n (now site) count × (j + 1 < count) ⌝ }
+    ensures { λ r. ⌜ r ≡ crossing (now (cost .entry)) (getD (now (site .entry)) j 0) (getD (now (site .entry)) (j + 1) 0) ⌝ }
+{
+    let s = place(site, j);
+    let k = place(site, j + 1);
+    cross(s, height(cost, s), k, height(cost, k))
+}
+
+// The starts of the corners that hold a place of the line; their number.
+fn starts(cost: &[u32], n: usize, site: &[u16], start: &mut [u16], count: usize) -> usize
+    requires { ⌜ Line (now cost) n (now site) (now start) ⌝ }
+    requires { ⌜ Hull (now cost) n (now site) count ⌝ }
+    ensures { λ r. ⌜ Started (now (cost .entry)) n (now (site .entry)) count (now (start .exit)) r ⌝ }
+{
+    if count == 0 {
+        return 0;
+    }
+    start[0] = 0;
+    let mut j: usize = 1;
+    while j < count {
+        let f = start_of(cost, n, site, count, j - 1);
+        if f >= n {
+            return j;
+        }
+        start[j] = f as u16;
+        j += 1;
+    }
+    count
 }
 
 // The envelope of all sites; the number of entries.
@@ -142,11 +167,6 @@ pub fn build(cost: &[u32], n: usize, site: &mut [u16], start: &mut [u16]) -> usi
     requires { ⌜ Line (now cost) n (now site) (now start) ⌝ }
     ensures { λ r. ⌜ Built (now (cost .entry)) n n (now (site .exit)) (now (start .exit)) r ⌝ }
 {
-    let mut count: usize = 0;
-    let mut k: usize = 0;
-    while k < n {
-        count = add(cost, n, k, site, start, count);
-        k += 1;
-    }
-    count
+    let count = hull(cost, n, site);
+    starts(cost, n, site, start, count)
 }

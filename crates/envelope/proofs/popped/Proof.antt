@@ -1,31 +1,51 @@
--- `envelope::popped` meets its contract: the invariant: at most `count` entries are left, and every place is held by the best or won by k (`Half`). The measure is the count.
+-- `envelope::popped` meets its contract: the invariant: at most `count` entries are left, b is the site of the last, and the best is k or one of them (`Popping`). The measure
+-- is the count.
 -- Assumes nothing.
-use Rattle.envelope.proofs.Turns.{popped-on, popped-end}
-use borrow.Author.Needs.{needs}
 use native.Mathlib.Omega.{arith}
-use Rattle.envelope.specs.Stack.{Half}
-use Prim.Native.Nat.{_≤_}
-use mathlib.Core.Logic.{inl}
+use borrow.Author.Needs.{needs}
+use Rattle.envelope.proofs.Turns.{Popping, popping-all, popping-places, popping-on, popping-corner, popping-none, popping-last, popping-lower, popping-first}
 use Rattle.envelope.proofs.popped.Statement.{statement}
 use Rattle.envelope.proofs.popped.Tie as tie
 
 abbrev Inv-loop : tie.InvT-loop
-Inv-loop cost n k site start count c₀ c = (c ≤ count) × Half cost n k site start c
+Inv-loop cost n k site count top c₀ b₀ c b = Popping cost k site count c b
 
 abbrev μ-loop : tie.MeasureT-loop
-μ-loop cost n k site start count c₀ c = c
+μ-loop cost n k site count top c₀ b₀ c b = c
 
 loop-holds : tie.Need-loop-holds Inv-loop μ-loop
-loop-holds c = (omega arith, λ x l. inl (c .before .before .before .pre .1 .0 .holds x l))
+loop-holds c = search (needs, popping-all)
 
-loses-requires : tie.Need-loses-requires Inv-loop μ-loop
-loses-requires c κs = (search needs, (search needs, (search needs, (search needs, omega arith))))
+place-requires : tie.Need-place-requires Inv-loop μ-loop
+place-requires c κs = let s = c .before .before .before .before in omega (arith, s .pre, c .before .loop .inv .0, s .pre .1 .0 .few)
+
+covers-requires : tie.Need-covers-requires Inv-loop μ-loop
+covers-requires c κs =
+    let s = c .before .before .before .before .before in
+    popping-places (s .pre .0) (s .pre .1 .0) (s .pre .1 .1 .0) (c .before .before .loop .inv) (omega arith) (c .place .ensures)
 
 loop-again : tie.Need-loop-again Inv-loop μ-loop
-loop-again c = search (needs, popped-on)
+loop-again c = search (needs, popping-on)
 
 returns : tie.Need-returns Inv-loop μ-loop
-returns c = search (needs, popped-end)
+returns c = search (needs, popping-corner)
+
+returns-2 : tie.Need-returns-2 Inv-loop μ-loop
+returns-2 c = search (needs, popping-none)
+
+height-requires : tie.Need-height-requires Inv-loop μ-loop
+height-requires c κs = let s = c .before .before .before .before .before in (omega (arith, s .pre), omega (arith, s .pre))
+
+height-requires-2 : tie.Need-height-requires-2 Inv-loop μ-loop
+height-requires-2 c κs =
+    let s = c .before .before .before .before .before .before in
+    popping-last (s .pre .0) (s .pre .1 .0) (s .pre .1 .1 .0) (c .before .before .before .loop .inv) (omega arith)
+
+returns-3 : tie.Need-returns-3 Inv-loop μ-loop
+returns-3 c = search (needs, popping-lower)
+
+returns-4 : tie.Need-returns-4 Inv-loop μ-loop
+returns-4 c = search (needs, popping-first)
 
 pub popped-spec : {M : Type 1} → statement M
 popped-spec =
@@ -35,9 +55,14 @@ popped-spec =
     μ-loop
     loop-holds
     (λ c. omega arith)
-    loses-requires
+    place-requires
+    covers-requires
     (λ c. omega arith)
     (λ c. omega arith)
     loop-again
     returns
-    (λ c. search needs))
+    returns-2
+    height-requires
+    height-requires-2
+    returns-3
+    returns-4)
