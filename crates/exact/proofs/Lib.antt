@@ -10,4 +10,6 @@ pub mod Spreading
 pub mod Passes
 pub mod Runs
 pub mod Prices
+pub mod Split
+pub mod Parts
 pub mod Solving

@@ -1,6 +1,6 @@
 -- The signed numbers of the ways, once: what `farther`, `shorter` and `costOf` make of a number by the tests on its sign, and that it fits.
 -- Assumes nothing.
-use mathlib.Core.Path.{_≡_, refl}
+use mathlib.Core.Path.{_≡_, refl, ap}
 use mathlib.Core.Bool.{Bool, true, false, true≢false, cond}
 use Prim.Native.Nat.{ℕ, zero, suc, _+_, _*_, _-_, _<_, _≤_}
 use native.Mathlib.Nat.{mul-le-mul}
@@ -11,6 +11,8 @@ use lib.Signed.{ltZ, leZ}
 use mir.Syntax.{w16, w32}
 use mir.Val.{SFits, ofZ}
 use borrow.Author.Tests.{ltb-true, ne-eqb}
+use Rattle.raster.specs.DistanceLaws.{root-le}
+use Rattle.raster.specs.Tests.{cond-ind}
 use Rattle.raster.specs.Vector.{Short, mark, isMark}
 use Rattle.raster.proofs.Signed.{widen, short-wide}
 use Rattle.exact.specs.Ways.{farther, shorter, costOf, Room, isZero}
@@ -69,6 +71,10 @@ cost-none v e = rw e
 
 pub cost-some : (v : ℤ) → isMark v ≡ false → natAbs v * natAbs v ≡ costOf v
 cost-some v e = rw e
+
+pub cost-zero : (v : ℤ) → costOf v ≡ 0 → v ≡ pos 0
+cost-zero (pos n) e = ap pos (omega (arith, root-le n 0 (omega arith)))
+cost-zero (negsuc n) e = absurd (cond-ind (λ (g : ℕ). g ≡ 0 → ⊥) (isMark (negsuc n)) (λ _ h. omega arith) (λ _ h. omega arith) e)
 
 pub square-fits : (v : ℤ) → Short v → natAbs v * natAbs v ≤ 1073741824
 square-fits v s = let n = short-wide v s in mul-le-mul n n

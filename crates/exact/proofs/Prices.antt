@@ -14,9 +14,9 @@ use Rattle.raster.specs.Tests.{cond-ind}
 use Rattle.raster.specs.Vector.{Short, isMark}
 use Rattle.envelope.specs.Best.{Costs, better, bestSite}
 use Rattle.envelope.specs.BestLaws.{best-found}
-use Rattle.envelope.specs.Stack.{holder, Built}
-use Rattle.exact.specs.Ways.{costOf, along, wayAt, rowCosts, Priced, Written}
-use Rattle.exact.proofs.Numbers.{square-fits}
+use Rattle.exact.specs.Ways.{costOf, along, wayAt, rowCosts, Priced, Written, Free}
+use Rattle.exact.proofs.Numbers.{cost-zero, square-fits}
+use Rattle.exact.proofs.Runs.{run-same}
 
 -- a cost is at most 2^30, or that of no site
 cost-range : (v : ℤ) → Short v → costOf v < 4294967295 → costOf v ≤ 2147483648
@@ -84,15 +84,17 @@ pub row-cost : (m : List ℤ) (base w j : ℕ) → j < w → getD (rowCosts m ba
 unfolding rowCosts
 row-cost m base w j l = tabulate-at w _ j 0 l
 
--- a row that is written by the stack's holders goes to the best columns
-pub row-solved : {m : List ℤ} {base w : ℕ} {ways : List ℤ} {cost site start : List ℕ} {c : ℕ} {o : List ℤ} → w ≤ 2048
-    → Priced m base w ways cost → Built cost w w site start c
-    → Written base 0 w (λ b. getD ways b (pos 0)) (holder site start c) m o → Written base 0 w (wayAt m base) (bestSite (rowCosts m base w) w) m o
-row-solved {m} {base} {w} {ways} {cost} {site} {start} {c} {o} few p b r =
-    record { long = r .long; dx = λ x h l. rw (best x l) at (r .dx x h l); dy = λ x h l. (rw (best x l) at (r .dy x h l)) ∙ way x; under = r .under; over = r .over }
+-- a row that is written by the costs and ways in the working rows goes to the best columns
+pub row-solved : {m : List ℤ} {base w : ℕ} {ways : List ℤ} {cost : List ℕ} {o : List ℤ} → w ≤ 2048 → Priced m base w ways cost
+    → Written base 0 w (λ b. getD ways b (pos 0)) (bestSite cost w) m o → Written base 0 w (wayAt m base) (bestSite (rowCosts m base w) w) m o
+row-solved {m} {base} {w} {ways} {cost} few p r = run-same r (λ x h l. (best x, way x))
   where
-    best : (x : ℕ) → x < w → holder site start c x ≡ bestSite (rowCosts m base w) w x
-    best x l = b .holds x l ∙ best-same cost (rowCosts m base w) x w (omega arith) (λ j k. p .costs-at j k ∙ sym (row-cost m base w j k))
+    best : (x : ℕ) → bestSite (rowCosts m base w) w x ≡ bestSite cost w x
+    best x = best-same (rowCosts m base w) cost x w (omega arith) (λ j k. row-cost m base w j k ∙ sym (p .costs-at j k))
 
-    way : (x : ℕ) → along (λ k. getD ways k (pos 0)) (bestSite (rowCosts m base w) w x) ≡ along (wayAt m base) (bestSite (rowCosts m base w) w x)
-    way x = ⊎-elim (λ n. rw (n .0)) (λ s. rw (p .ways-at _ (s .below))) (best-found (rowCosts m base w) w x (omega arith))
+    way : (x : ℕ) → along (λ k. getD ways k (pos 0)) (bestSite cost w x) ≡ along (wayAt m base) (bestSite cost w x)
+    way x = ⊎-elim (λ n. rw (n .0)) (λ s. rw (p .ways-at _ (s .below))) (best-found cost w x (omega arith))
+
+-- a column that costs nothing has the way 0
+pub priced-free : {m : List ℤ} {base w : ℕ} {ways : List ℤ} {cost : List ℕ} → Priced m base w ways cost → Free w ways cost
+priced-free p k l e = p .ways-at k l ∙ cost-zero _ (sym (p .costs-at k l) ∙ e)

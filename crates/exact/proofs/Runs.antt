@@ -1,4 +1,4 @@
--- The runs of a row: how one starts, one pixel more, how one ends, and two that meet.
+-- The runs of a row: how one starts, one pixel more, how one ends, and two that meet or overlap.
 -- Assumes nothing.
 use mathlib.Core.Path.{_≡_, refl, sym, _∙_}
 use mathlib.Core.Logic.{_≢_}
@@ -6,7 +6,7 @@ use mathlib.Core.List.{List}
 use Prim.Native.Nat.{ℕ, _+_, _-_, _<_, _≤_}
 use native.Mathlib.Decide.{decLt, ℕ-discrete}
 use native.Mathlib.Omega.{arith}
-use lib.IntN.{ℤ, pos, _-ℤ_}
+use lib.IntN.{ℤ, pos, _-ℤ_, +ℤ-invr}
 use lib.ListN.{getD}
 use borrow.Author.Tests.{ne-eqb}
 use Rattle.raster.specs.Map.{Inside, dxAt, dyAt, put}
@@ -22,6 +22,10 @@ module _ (s : ℕ) (few : s < 2048) where
 
   pub along-site : (v : ℕ → ℤ) → v s ≡ along v s
   along-site v = rw (ne-eqb s 65535 (omega arith))
+
+-- and the vector to itself is none at all
+pub across-self : (x : ℕ) → x < 2048 → (pos 0 ≡ across x x) × (pos 0 ≡ along (λ b. pos 0) x)
+across-self x few = (sym (+ℤ-invr (pos x)) ∙ across-site x few x, along-site x few (λ b. pos 0))
 
 -- what a write and the next one leave alone, both together do
 pub chain : {a b c d e f : ℤ} → (a ≡ b) × (d ≡ e) → (b ≡ c) × (e ≡ f) → (a ≡ c) × (d ≡ f)
@@ -74,6 +78,34 @@ module _ {base from : ℕ} {v : ℕ → ℤ} {best : ℕ → ℕ} {m : List ℤ}
           over = λ p i. elim (decLt p (base + from)) [ yes j ↦ f .under p j | no j ↦ f .over p (omega arith) ];
         }
   ]
+
+-- a run that goes to the columns that it should
+pub run-same : {base a b : ℕ} {u v : ℕ → ℤ} {way best : ℕ → ℕ} {m o : List ℤ} → Written base a b u way m o
+    → ((x : ℕ) → a ≤ x → x < b → (best x ≡ way x) × (along u (way x) ≡ along v (way x))) → Written base a b v best m o
+run-same w same = record {
+  long = w .long;
+  dx = λ x i j. rw (same x i j .0) (w .dx x i j);
+  dy = λ x i j. rw (same x i j .0, ← same x i j .1) (w .dy x i j);
+  under = w .under;
+  over = w .over;
+}
+
+-- two runs, the later one over the end of the earlier one
+pub run-over : {base a b c d : ℕ} {v : ℕ → ℤ} {best : ℕ → ℕ} {m o q : List ℤ} → a ≤ b → b ≤ c → c ≤ d
+    → Written base a c v best m o → Written base b d v best o q → Written base a d v best m q
+run-over {base} {a} {b} {c} {d} h k l earlier later = record {
+  long = later .long ∙ earlier .long;
+  dx = λ x i j. elim (decLt x b) [
+    | yes e ↦ later .under (base + x) (omega arith) .0 ∙ earlier .dx x i (omega arith)
+    | no e ↦ later .dx x (omega arith) j
+  ];
+  dy = λ x i j. elim (decLt x b) [
+    | yes e ↦ later .under (base + x) (omega arith) .1 ∙ earlier .dy x i (omega arith)
+    | no e ↦ later .dy x (omega arith) j
+  ];
+  under = λ p i. chain (later .under p (omega arith)) (earlier .under p i);
+  over = λ p i. chain (later .over p i) (earlier .over p (omega arith));
+}
 
 -- two runs that meet: the later one was written first, and the earlier one says what it should
 pub run-join : {base a b n : ℕ} {u v : ℕ → ℤ} {way best : ℕ → ℕ} {m o q : List ℤ} → a ≤ b → b ≤ n

@@ -7,7 +7,7 @@ use mathlib.Core.List.{List}
 use Prim.Native.Nat.{ℕ, zero, suc, _+_, _-_, _*_, _<_, _≤_}
 use lib.Dec.{leb, eqb}
 use lib.IntN.{ℤ, pos, negsuc, negℤ, natAbs, _-ℤ_}
-use lib.ListN.{length, getD}
+use lib.ListN.{length, getD, take, drop}
 use lib.Signed.{mag}
 use Rattle.raster.specs.Pixels.{Mask, index, tabulate}
 use Rattle.raster.specs.Vector.{mark, isMark}
@@ -105,6 +105,38 @@ pub record Written (base from to : ℕ) (v : ℕ → ℤ) (best : ℕ → ℕ) (
   pub dy : (x : ℕ) → from ≤ x → x < to → dyAt after (base + x) ≡ along v (best x)
   pub under : (p : ℕ) → p < base + from → (dxAt after p ≡ dxAt before p) × (dyAt after p ≡ dyAt before p)
   pub over : (p : ℕ) → base + to ≤ p → (dxAt after p ≡ dxAt before p) × (dyAt after p ≡ dyAt before p)
+
+-- ---- a row that long runs of copper split into parts
+
+-- the places from lo to hi − 1
+abbrev pub part : {A : Type 0} (lo hi : ℕ) → List A → List A
+part lo hi s = take (hi - lo) (drop lo s)
+
+-- a column that costs nothing is copper: its way is 0
+abbrev pub Free : (w : ℕ) → List ℤ → List ℕ → Type 0
+Free w ways cost = (k : ℕ) → k < w → getD cost k 0 ≡ 0 → getD ways k (pos 0) ≡ pos 0
+
+-- x is copper, at or after `from`, or the end of the row
+pub record CopperRun (cost : List ℕ) (from w x : ℕ) : Type 0 where
+  pub after : from ≤ x
+  pub on : x ≤ w
+  pub copper : x < w → getD cost x 0 ≡ 0
+
+-- the copper from `from` on ends before e
+pub record CopperEnd (cost : List ℕ) (from w e : ℕ) : Type 0 where
+  pub after : from ≤ e
+  pub on : e ≤ w
+  pub copper : (k : ℕ) → from ≤ k → k < e → getD cost k 0 ≡ 0
+  pub ends : e < w → 0 < getD cost e 0
+
+-- the pixels from lo to e − 1 are written, more than the first `done`, and the last is copper where the row goes on
+pub record Next (base w lo done : ℕ) (ways : List ℤ) (cost : List ℕ) (before : List ℤ) (e : ℕ) (after : List ℤ) : Type 0 where
+  pub more : done < e
+  pub on : e ≤ w
+  pub copper : e < w → getD cost (e - 1) 0 ≡ 0
+  pub written : Written base lo e (λ b. getD ways b (pos 0)) (bestSite cost w) before after
+
+-- ---- all rows
 
 -- every pixel has the vector to the best column of its row
 pub record Solved (w h : ℕ) (before after : List ℤ) : Type 0 where

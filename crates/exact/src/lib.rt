@@ -2,20 +2,20 @@
 //
 // Two passes over the rows leave in the first half of the map, a number a pixel, how far the nearest copper of each pixel's column is, up or down,
 // whichever is shorter. Then each row is worked out by itself: a column costs the square of its way, and the lower envelope of the columns' parabolas
-// gives the nearest column of each pixel. The rows are worked out from the last to the first, since the vectors of row y stand behind the ways of the
-// rows above it. The working rows are local ones of 2,048 numbers.
+// gives the nearest column of each pixel. Long runs of copper split a row into parts with an envelope each. The rows are worked out from the last to the
+// first, since the vectors of row y stand behind the ways of the rows above it. The working rows are local ones of 2,048 numbers.
 ghost use mathlib.Core.Path.{_≡_};
 ghost use mathlib.Core.Bool.{not};
-ghost use Prim.Native.Nat.{ℕ, _+_, _*_, _≤_, _<_};
+ghost use Prim.Native.Nat.{ℕ, _+_, _-_, _*_, _≤_, _<_};
 ghost use lib.Dec.{eqb};
 ghost use lib.IntN.{pos, negsuc, _-ℤ_};
 ghost use lib.ListN.{length, getD};
 ghost use Rattle.raster.specs.Sheet.{copperOf};
 ghost use Rattle.raster.specs.Vector.{Short};
-ghost use Rattle.envelope.specs.Best.{bestSite, Costs};
+ghost use Rattle.envelope.specs.Best.{bestSite, Costs, Line};
 ghost use Rattle.envelope.specs.Stack.{holder};
 ghost use Rattle.exact.specs.Nearest.{exactMap, cleared};
-ghost use Rattle.exact.specs.Ways.{farther, up, shorter, costOf, Room, isZero, Spread, Held, shortened, wayAt, rowCosts, Priced, Written, Solved};
+ghost use Rattle.exact.specs.Ways.{farther, up, shorter, costOf, Room, isZero, Spread, Held, shortened, wayAt, rowCosts, Priced, Written, part, Free, CopperRun, CopperEnd, Next, Solved};
 
 // ---- the ways within the columns
 
@@ -215,6 +215,125 @@ fn write_row(
     clear_run(map, base, to);
 }
 
+// The first place from `from` on that costs something, or w.
+fn copper_end(cost: &[u32], from: usize, w: usize) -> usize
+    requires { ⌜ (from ≤ w) × (w ≤ length (now cost)) ⌝ }
+    ensures { λ r. ⌜ CopperEnd (now (cost .entry)) from w r ⌝ }
+{
+    let mut x = from;
+    while x < w {
+        if cost[x] != 0 {
+            return x;
+        }
+        x += 1;
+    }
+    x
+}
+
+// Where a run of copper starts that is long enough to split the row: 32 places. Looked for at `from`, `from` + 32 and so on only; w if none is found.
+fn copper_run(cost: &[u32], from: usize, w: usize) -> usize
+    requires { ⌜ (from ≤ w) × (w ≤ length (now cost)) ⌝ }
+    ensures { λ r. ⌜ CopperRun (now (cost .entry)) from w r ⌝ }
+{
+    let mut x = from;
+    while x + 32 <= w {
+        if copper_end(cost, x, x + 32) == x + 32 {
+            return x;
+        }
+        x += 32;
+    }
+    w
+}
+
+// The pixels from `from` to `to` − 1 of the row are copper: each goes to itself.
+fn write_copper(map: &mut [i16], base: usize, from: usize, to: usize)
+    requires { ⌜ (2 * (base + to) ≤ length (now map)) × ((from ≤ to) × (to ≤ 2048)) ⌝ }
+    ensures { λ _. ⌜ Written base from to (λ b. pos 0) (λ x. x) (now (map .entry)) (now (map .exit)) ⌝ }
+{
+    let mut x = from;
+    while x < to {
+        raster::put_at(map, base + x, 0, 0);
+        x += 1;
+    }
+}
+
+// The pixels from `lo` to `hi` − 1 of the row, as a row of their own: each goes to the best of their columns.
+fn solve_part(
+    map: &mut [i16],
+    base: usize,
+    lo: usize,
+    hi: usize,
+    ways: &[i16],
+    cost: &[u32],
+    site: &mut [u16],
+    start: &mut [u16],
+)
+    requires { ⌜ (2 * (base + hi) ≤ length (now map)) × ((lo ≤ hi) × (hi ≤ length (now ways))) ⌝ }
+    requires { ⌜ Line (now cost) hi (now site) (now start) ⌝ }
+    ensures { λ _. ⌜ Written (base + lo) 0 (hi - lo) (λ b. getD (part lo hi (now (ways .entry))) b (pos 0)) (bestSite (part lo hi (now (cost .entry))) (hi - lo)) (now (map .entry)) (now (map .exit)) ⌝ }
+{
+    let count = envelope::build(&cost[lo..hi], hi - lo, site, start);
+    write_row(map, base + lo, hi - lo, &ways[lo..hi], site, start, count);
+}
+
+// Where the part that ends with the copper at x ends: after x, or with the row.
+fn part_end(x: usize, w: usize) -> usize
+    requires { ⌜ x ≤ w ⌝ }
+    ensures { λ r. ⌜ r ≡ x + 1 - (x + 1 - w) ⌝ }
+{
+    if x < w {
+        return x + 1;
+    }
+    w
+}
+
+// The pixels from `lo` to the end of the next long run of copper, which starts at `done` or later: each goes to its best column. The result is that end.
+fn solve_next(
+    map: &mut [i16],
+    base: usize,
+    w: usize,
+    lo: usize,
+    done: usize,
+    ways: &[i16],
+    cost: &[u32],
+    site: &mut [u16],
+    start: &mut [u16],
+) -> usize
+    requires { ⌜ (2 * (base + w) ≤ length (now map)) × (w ≤ length (now ways)) ⌝ }
+    requires { ⌜ Line (now cost) w (now site) (now start) × Free w (now ways) (now cost) ⌝ }
+    requires { ⌜ (lo ≤ done) × ((done < w) × (0 < lo → getD (now cost) lo 0 ≡ 0)) ⌝ }
+    ensures { λ r. ⌜ Next base w lo done (now (ways .entry)) (now (cost .entry)) (now (map .entry)) r (now (map .exit)) ⌝ }
+{
+    let x = copper_run(cost, done, w);
+    solve_part(map, base, lo, part_end(x, w), ways, cost, site, start);
+    let e = copper_end(cost, x, w);
+    write_copper(map, base, x, e);
+    e
+}
+
+// The row by its parts, from the first to the last. A part starts with the last copper of the run before it, and ends with the first of the next: beyond
+// these no column is better.
+fn solve_parts(
+    map: &mut [i16],
+    base: usize,
+    w: usize,
+    ways: &[i16],
+    cost: &[u32],
+    site: &mut [u16],
+    start: &mut [u16],
+)
+    requires { ⌜ (2 * (base + w) ≤ length (now map)) × (w ≤ length (now ways)) ⌝ }
+    requires { ⌜ Line (now cost) w (now site) (now start) × Free w (now ways) (now cost) ⌝ }
+    ensures { λ _. ⌜ Written base 0 w (λ b. getD (now (ways .entry)) b (pos 0)) (bestSite (now (cost .entry)) w) (now (map .entry)) (now (map .exit)) ⌝ }
+{
+    let mut lo: usize = 0;
+    let mut done: usize = 0;
+    while done < w {
+        done = solve_next(map, base, w, lo, done, ways, cost, site, start);
+        lo = done - 1;
+    }
+}
+
 // The row that starts at `base`: each pixel goes to its best column.
 fn solve_row(
     map: &mut [i16],
@@ -230,8 +349,7 @@ fn solve_row(
     ensures { λ _. ⌜ Written base 0 w (wayAt (now (map .entry)) base) (bestSite (rowCosts (now (map .entry)) base w) w) (now (map .entry)) (now (map .exit)) ⌝ }
 {
     price_row(map, base, w, ways, cost);
-    let count = envelope::build(cost, w, site, start);
-    write_row(map, base, w, ways, site, start, count);
+    solve_parts(map, base, w, ways, cost, site, start);
 }
 
 // All rows, from the last.

@@ -1,0 +1,148 @@
+-- A row that is written by its parts: one part, the copper after it, and the loop over them: how it starts, one part more, how it ends.
+-- Assumes nothing.
+use mathlib.Core.Path.{_≡_, refl, sym, ap, _∙_}
+use mathlib.Core.Logic.{inl, inr}
+use mathlib.Core.List.{List}
+use Prim.Native.Nat.{ℕ, _+_, _-_, _<_, _≤_}
+use native.Mathlib.Decide.{decLt}
+use native.Mathlib.Omega.{arith}
+use lib.IntN.{ℤ, pos, negℤ, _+ℤ_, _-ℤ_, +ℤ-assoc, negℤ-+ℤ, +ℤ-negℤ-cancel}
+use lib.ListN.{getD, length, length-take, length-drop}
+use Rattle.raster.specs.Map.{dxAt, dyAt}
+use Rattle.envelope.specs.Best.{bestSite, Line}
+use Rattle.exact.specs.Ways.{across, along, Written, part, Free, CopperRun, CopperEnd, Next}
+use Rattle.exact.proofs.Runs.{across-site, along-site, run-none, run-same, run-over}
+use Rattle.exact.proofs.Split.{Part, part-at, Same, best-part, best-copper}
+
+-- ---- a part
+
+-- a line up to an earlier end, in working slices of the same length
+pub line-to : {G : List ℕ} {n hi : ℕ} {site start site′ start′ : List ℕ} → Line G n site start → hi ≤ n
+    → length site′ ≡ length site → length start′ ≡ length start → Line G hi site′ start′
+line-to l h i j = record {
+  short = omega (arith, l .short);
+  costs = omega (arith, l .costs);
+  sites = omega (arith, l .sites);
+  starts = omega (arith, l .starts);
+  range = λ k m. l .range k (omega arith);
+}
+
+-- the part of a line
+pub part-line : {G : List ℕ} (lo : ℕ) {hi : ℕ} {site start : List ℕ} → Line G hi site start → Line (part lo hi G) (hi - lo) site start
+part-line {G} lo {hi} l = record {
+  short = omega (arith, l .short);
+  costs = simp (length-take, length-drop) (omega (arith, l .costs));
+  sites = omega (arith, l .sites);
+  starts = omega (arith, l .starts);
+  range = λ k i. rw (part-at lo hi G k 0 i) (l .range (lo + k) (omega arith));
+}
+
+-- the way from column to column is the same in the part and in the row
+way-same : (lo b x : ℕ) → pos (lo + b) -ℤ pos (lo + x) ≡ pos b -ℤ pos x
+way-same lo b x =
+    let e : lo + b ≡ b + lo = omega arith in
+    ap (λ (t : ℕ). pos t -ℤ pos (lo + x)) e
+    ∙ ap (λ (t : ℤ). pos (b + lo) +ℤ t) (negℤ-+ℤ (pos lo) (pos x))
+    ∙ sym (+ℤ-assoc (pos (b + lo)) (negℤ (pos lo)) (negℤ (pos x)))
+    ∙ ap (λ (t : ℤ). t -ℤ pos x) (+ℤ-negℤ-cancel (pos b) (pos lo))
+
+-- a part that is written as a row of its own is written as the row asks
+pub part-solved : {base w lo hi : ℕ} (ways : List ℤ) {cost : List ℕ} {m o : List ℤ} → w ≤ 2048 → lo ≤ hi → Part cost w lo hi
+    → Written (base + lo) 0 (hi - lo) (λ b. getD (part lo hi ways) b (pos 0)) (bestSite (part lo hi cost) (hi - lo)) m o
+    → Written base lo hi (λ b. getD ways b (pos 0)) (bestSite cost w) m o
+part-solved {base} {w} {lo} {hi} ways {cost} {m} {o} few order p r = record {
+  long = r .long;
+  dx = λ x i l. at x i l .0;
+  dy = λ x i l. at x i l .1;
+  under = λ q i. r .under q (omega arith);
+  over = λ q i. r .over q (omega arith);
+}
+  where
+    -- the vector to the best site of the part is the one to that of the row
+    vector : (j : ℕ) {b c : ℕ} → Same lo hi b c
+        → (across b j ≡ across c (lo + j)) × (along (λ k. getD (part lo hi ways) k (pos 0)) b ≡ along (λ k. getD ways k (pos 0)) c)
+    vector j (inl (e, f)) = rw (e, f) (refl, refl)
+    vector j {b} (inr (l, e)) =
+        let i : b < 2048 = omega (arith, p .on) in
+        let k : lo + b < 2048 = omega (arith, p .on) in
+        rw e (
+          sym (across-site b i j) ∙ sym (way-same lo b j) ∙ across-site (lo + b) k (lo + j),
+          sym (along-site b i (λ t. getD (part lo hi ways) t (pos 0))) ∙ part-at lo hi ways b (pos 0) l ∙ along-site (lo + b) k (λ t. getD ways t (pos 0)),
+        )
+
+    pixel : (j : ℕ) → j < hi - lo
+        → (dxAt o (base + lo + j) ≡ across (bestSite cost w (lo + j)) (lo + j))
+        × (dyAt o (base + lo + j) ≡ along (λ b. getD ways b (pos 0)) (bestSite cost w (lo + j)))
+    pixel j l =
+        let v = vector j (best-part cost w lo hi few p j l) in
+        (r .dx j (omega arith) l ∙ v .0, r .dy j (omega arith) l ∙ v .1)
+
+    at : (x : ℕ) → lo ≤ x → x < hi → (dxAt o (base + x) ≡ across (bestSite cost w x) x) × (dyAt o (base + x) ≡ along (λ b. getD ways b (pos 0)) (bestSite cost w x))
+    at x i l =
+        let e : lo + (x - lo) ≡ x = omega arith in
+        let f : base + lo + (x - lo) ≡ base + x = omega arith in
+        rw (e, f) at (pixel (x - lo) (omega arith))
+
+-- ---- copper
+
+-- copper that goes to itself goes to its best column
+pub copper-solved : {base w from to : ℕ} (ways : List ℤ) {cost : List ℕ} {m o : List ℤ} → w ≤ 2048 → Free w ways cost → CopperEnd cost from w to
+    → Written base from to (λ b. pos 0) (λ x. x) m o → Written base from to (λ b. getD ways b (pos 0)) (bestSite cost w) m o
+copper-solved {w = w} ways {cost = cost} few free c r = run-same r (λ x i j.
+    let z = c .copper x i j in
+    let l : x < w = omega (arith, c .on) in
+    (best-copper cost w x few l z, ap (λ (t : ℤ). along (λ _. t) x) (sym (free x l z))))
+
+-- copper at x ends beyond it
+copper-more : {cost : List ℕ} {x w e : ℕ} → CopperEnd cost x w e → getD cost x 0 ≡ 0 → x < w → x < e
+copper-more {cost} {x} {w} {e} c z l = elim (decLt x e) [
+  | yes h ↦ h
+  | no h ↦ let s : e ≡ x = omega (arith, c .after) in absurd (omega (arith, rw s at (c .ends (omega arith)), z))
+]
+
+-- a part, and the copper after it
+pub next-solved : {base w lo done x hi e : ℕ} (ways : List ℤ) {cost : List ℕ} {m n o : List ℤ} → w ≤ 2048 → Free w ways cost
+    → lo ≤ done → done < w → (0 < lo → getD cost lo 0 ≡ 0)
+    → CopperRun cost done w x → hi ≡ x + 1 - (x + 1 - w)
+    → Written (base + lo) 0 (hi - lo) (λ b. getD (part lo hi ways) b (pos 0)) (bestSite (part lo hi cost) (hi - lo)) m n
+    → CopperEnd cost x w e → Written base x e (λ b. pos 0) (λ z. z) n o → Next base w lo done ways cost m e o
+next-solved {base} {w} {lo} {done} {x} {hi} {e} ways {cost} few free behind more left run ends part c copper = record {
+  more = omega (arith, run .after, reached);
+  on = c .on;
+  copper = λ l. c .copper (e - 1) (omega (arith, reached)) (omega (arith, reached));
+  written = run-over (omega (arith, run .after)) (omega (arith, run .on)) reached
+      (part-solved ways few (omega (arith, run .after)) (record { on = omega (arith, run .on); left = left; right = right }) part)
+      (copper-solved ways few free c copper);
+}
+  where
+    right : hi < w → getD cost (hi - 1) 0 ≡ 0
+    right l = let s : hi - 1 ≡ x = omega arith in rw s (run .copper (omega arith))
+
+    reached : hi ≤ e
+    reached = elim (decLt x w) [ yes l ↦ omega (arith, copper-more c (run .copper l) l) | no l ↦ omega (arith, run .on, c .after) ]
+
+-- ---- all parts
+
+-- the first `done` pixels are written, and the next part starts at lo, with copper
+pub record Parted (base w : ℕ) (ways : List ℤ) (cost : List ℕ) (m : List ℤ) (lo done : ℕ) (o : List ℤ) : Type 0 where
+  pub on : done ≤ w
+  pub behind : lo ≤ done
+  pub copper : done < w → 0 < lo → getD cost lo 0 ≡ 0
+  pub written : Written base 0 done (λ b. getD ways b (pos 0)) (bestSite cost w) m o
+
+module _ {base w : ℕ} {ways : List ℤ} {cost : List ℕ} {m : List ℤ} where
+  pub parted-none : Parted base w ways cost m 0 0 m
+  parted-none = record { on = omega arith; behind = omega arith; copper = λ l i. absurd (omega arith); written = run-none }
+
+  pub parted-more : {lo done e : ℕ} {o q : List ℤ} → Parted base w ways cost m lo done o → Next base w lo done ways cost o e q
+      → Parted base w ways cost m (e - 1) e q
+  parted-more p n = record {
+    on = n .on;
+    behind = omega arith;
+    copper = λ l i. n .copper l;
+    written = run-over (omega arith) (p .behind) (omega (arith, n .more)) (p .written) (n .written);
+  }
+
+  pub parted-all : {lo done : ℕ} {o : List ℤ} → Parted base w ways cost m lo done o → w ≤ done
+      → Written base 0 w (λ b. getD ways b (pos 0)) (bestSite cost w) m o
+  parted-all {lo} {done} p h = let e : done ≡ w = omega (arith, p .on) in rw e at (p .written)
