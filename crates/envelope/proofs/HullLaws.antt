@@ -327,9 +327,9 @@ module _ (G : List ℕ) (n : ℕ) (site : List ℕ) (count : ℕ) (start : List 
         nobody m (inr l) = omega (arith, m .below)
     all-held (suc j) e = held j (omega arith) (last j e)
 
-  pub hull-built : Built G n n site start c
+  pub hull-built : Built G n site start c
   hull-built =
       record {
-        entries = record { few = omega (arith, h .few, s .fewer); seen = λ j l. h .seen j (omega (arith, s .fewer)); real = λ j l. h .real j (omega (arith, s .fewer)); line = s .line };
+        entries = record { few = omega (arith, h .few, s .fewer); seen = λ j l. h .seen j (omega (arith, s .fewer)); real = λ j l. h .real j (omega (arith, s .fewer)) };
         holds = λ x l. all-held x l c refl;
       }

@@ -131,30 +131,28 @@ abbrev pub Starting : List ℕ → (n : ℕ) → List ℕ → List ℕ → (j : 
 Starting G n site start j = Started G n site j start j
 
 pub started-none : {G : List ℕ} {n : ℕ} {site : List ℕ} {count : ℕ} {start : List ℕ} → count ≡ 0 → Started G n site count start 0
-started-none e = record { fewer = omega arith; some = λ z. omega arith; first = λ z. absurd (omega arith); next = λ j m. absurd (omega arith); line = λ j m. omega arith; beyond = λ j i m. omega arith }
+started-none e = record { fewer = omega arith; some = λ z. omega arith; first = λ z. absurd (omega arith); next = λ j m. absurd (omega arith); beyond = λ j i m. omega arith }
 
-pub starting-one : {G : List ℕ} {n : ℕ} {site : List ℕ} (start : List ℕ) → 0 < n → 0 < length start → Starting G n site (set start 0 0) 1
-starting-one start p l =
+pub starting-one : {G : List ℕ} {n : ℕ} {site : List ℕ} (start : List ℕ) → 0 < length start → Starting G n site (set start 0 0) 1
+starting-one start l =
     record {
       fewer = omega arith;
       some = λ z. z;
       first = λ z. getD-set-same start 0 0 0 l;
       next = λ j m. absurd (omega arith);
-      line = λ j m. let e : j ≡ 0 = omega arith in rw (e, getD-set-same start 0 0 0 l) p;
       beyond = λ j e m. absurd (omega arith);
     }
 
 module _ {G : List ℕ} {n : ℕ} {site start : List ℕ} {j : ℕ} (s : Starting G n site start j) (p : 0 < j) where
   -- entry j would start at f
   module _ {f : ℕ} (q : f ≡ crossing G (getD site (j - 1) 0) (getD site (j - 1 + 1) 0)) where
-    pub starting-on : f < n → j < length start → Starting G n site (set start j f) (j + 1)
-    starting-on l m =
+    pub starting-on : j < length start → Starting G n site (set start j f) (j + 1)
+    starting-on m =
         record {
           fewer = omega arith;
           some = λ z. z;
           first = λ z. getD-set-other start j 0 f 0 (omega arith) ∙ s .first p;
           next = λ i a. ⊎-elim (λ b. old (suc i) b ∙ s .next i b) (λ b. new i (omega arith)) (order (suc i) j);
-          line = λ i a. ⊎-elim (λ b. rw (old i b) (s .line i b)) (λ b. let e : i ≡ j = omega arith in rw (e, getD-set-same start j f 0 m) l) (order i j);
           beyond = λ i e a. absurd (omega arith);
         }
       where
@@ -174,7 +172,6 @@ module _ {G : List ℕ} {n : ℕ} {site start : List ℕ} {j : ℕ} (s : Startin
           some = λ z. p;
           first = s .first;
           next = s .next;
-          line = s .line;
           beyond = λ i e a. let b : j - 1 ≡ i = omega arith in let d : j - 1 + 1 ≡ j = omega arith in rw (sym b) (omega (arith, rw d at q));
         }
 

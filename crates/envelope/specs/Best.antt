@@ -29,14 +29,9 @@ unfoldable pub bestSite : List ℕ → ℕ → ℕ → ℕ
 bestSite G zero x = 65535
 bestSite G (suc k) x = better G x (bestSite G k x) k
 
--- the costs of the first n places that the envelope takes: at most 2^31, or 4294967295 (no site)
-abbrev pub Costs : List ℕ → ℕ → Type 0
-Costs G n = (k : ℕ) → k < n → Site G k → getD G k 0 ≤ 2147483648
-
 -- what the envelope asks of a line: at most 2048 places, and that many elements in the costs and the two working slices
 pub record Line (G : List ℕ) (n : ℕ) (site start : List ℕ) : Type 0 where
   pub short : n ≤ 2048
   pub costs : n ≤ length G
   pub sites : n ≤ length site
   pub starts : n ≤ length start
-  pub range : Costs G n

@@ -1,4 +1,4 @@
--- What the functions that build the envelope say of their stack while they work. The site k costs x² − 2xk less than the height of its point at x;
+-- What the functions that build the envelope say of their stack while they work. At x the site k costs x² − 2xk more than the height of its point;
 -- so the sites that are best somewhere are corners of the lower convex hull of the points, and the stack holds these from the left.
 -- Assumes nothing.
 use Prim.Native.Nat.{ℕ, suc, _+_, _-_, _*_, _/_, _<_, _≤_}
@@ -50,11 +50,10 @@ pub record Popped (G : List ℕ) (k : ℕ) (site : List ℕ) (count c : ℕ) : T
   pub upward : 0 < c → heightOf G (getD site (c - 1) 0) ≤ heightOf G k
   pub convex : 1 < c → over G (getD site (c - 2) 0) (getD site (c - 1) 0) k ≡ false
 
--- the first c of the hull's entries have their starts, on the line; the next would start beyond it
+-- the first c of the hull's entries have their starts; the next would start beyond the line
 pub record Started (G : List ℕ) (n : ℕ) (site : List ℕ) (count : ℕ) (start : List ℕ) (c : ℕ) : Type 0 where
   pub fewer : c ≤ count
   pub some : 0 < count → 0 < c
   pub first : 0 < c → getD start 0 0 ≡ 0
   pub next : (j : ℕ) → suc j < c → getD start (suc j) 0 ≡ crossing G (getD site j 0) (getD site (suc j) 0)
-  pub line : (j : ℕ) → j < c → getD start j 0 < n
   pub beyond : (j : ℕ) → suc j ≡ c → c < count → n ≤ crossing G (getD site j 0) (getD site c 0)

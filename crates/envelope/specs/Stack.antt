@@ -14,14 +14,13 @@ unfoldable pub holder : List ℕ → List ℕ → ℕ → ℕ → ℕ
 holder site start zero x = 65535
 holder site start (suc j) x = cond (leb (getD start j 0) x) (getD site j 0) (holder site start j x)
 
--- the first c entries are sites below k, with starts on the line
-pub record Entries (G : List ℕ) (n k : ℕ) (site start : List ℕ) (c : ℕ) : Type 0 where
-  pub few : c ≤ k
-  pub seen : (j : ℕ) → j < c → getD site j 0 < k
+-- the first c entries are sites of the line
+pub record Entries (G : List ℕ) (n : ℕ) (site : List ℕ) (c : ℕ) : Type 0 where
+  pub few : c ≤ n
+  pub seen : (j : ℕ) → j < c → getD site j 0 < n
   pub real : (j : ℕ) → j < c → Site G (getD site j 0)
-  pub line : (j : ℕ) → j < c → getD start j 0 < n
 
--- the envelope of the sites below k: every place of the line is held by the best of them
-pub record Built (G : List ℕ) (n k : ℕ) (site start : List ℕ) (c : ℕ) : Type 0 where
-  pub entries : Entries G n k site start c
-  pub holds : (x : ℕ) → x < n → holder site start c x ≡ bestSite G k x
+-- the envelope of the line's sites: every place is held by the best of them
+pub record Built (G : List ℕ) (n : ℕ) (site start : List ℕ) (c : ℕ) : Type 0 where
+  pub entries : Entries G n site c
+  pub holds : (x : ℕ) → x < n → holder site start c x ≡ bestSite G n x

@@ -1,6 +1,6 @@
 // The lower envelope of unit parabolas along a line, in linear time.
 //
-// A line has n places, at most 2048. The place k is a site if cost[k] is below 4294967295, and then costs at most 2^31.
+// A line has n places, at most 2048. The place k is a site if cost[k] is below 4294967295.
 // At x the site k costs (x - k)^2 + cost[k]. `build` leaves a stack of entries in which every x is held by the site of least
 // cost, among equals the least site (`bestSite` of specs/Best.antt): the last entry whose start is at most x holds it.
 //
@@ -165,7 +165,7 @@ fn starts(cost: &[u32], n: usize, site: &[u16], start: &mut [u16], count: usize)
 // The envelope of all sites; the number of entries.
 pub fn build(cost: &[u32], n: usize, site: &mut [u16], start: &mut [u16]) -> usize
     requires { ⌜ Line (now cost) n (now site) (now start) ⌝ }
-    ensures { λ r. ⌜ Built (now (cost .entry)) n n (now (site .exit)) (now (start .exit)) r ⌝ }
+    ensures { λ r. ⌜ Built (now (cost .entry)) n (now (site .exit)) (now (start .exit)) r ⌝ }
 {
     let count = hull(cost, n, site);
     starts(cost, n, site, start, count)

@@ -24,7 +24,6 @@ line-to l h i j = record {
   costs = omega (arith, l .costs);
   sites = omega (arith, l .sites);
   starts = omega (arith, l .starts);
-  range = λ k m. l .range k (omega arith);
 }
 
 -- the part of a line
@@ -34,7 +33,6 @@ part-line {G} lo {hi} l = record {
   costs = simp (length-take, length-drop) (omega (arith, l .costs));
   sites = omega (arith, l .sites);
   starts = omega (arith, l .starts);
-  range = λ k i. rw (part-at lo hi G k 0 i) (l .range (lo + k) (omega arith));
 }
 
 -- the way from column to column is the same in the part and in the row

@@ -10,25 +10,18 @@ use lib.IntN.{ℤ, pos}
 use lib.ListN.{length, getD, set, length-set}
 use lib.Seq.{getD-set-same, getD-set-other}
 use Rattle.raster.specs.PixelsLaws.{tabulate-at}
-use Rattle.raster.specs.Tests.{cond-ind}
-use Rattle.raster.specs.Vector.{Short, isMark}
-use Rattle.envelope.specs.Best.{Costs, better, bestSite}
+use Rattle.envelope.specs.Best.{better, bestSite}
 use Rattle.envelope.specs.BestLaws.{best-found}
 use Rattle.exact.specs.Ways.{costOf, along, wayAt, rowCosts, Priced, Written, Free}
-use Rattle.exact.proofs.Numbers.{cost-zero, square-fits}
+use Rattle.exact.proofs.Numbers.{cost-zero}
 use Rattle.exact.proofs.Runs.{run-same}
 
--- a cost is at most 2^30, or that of no site
-cost-range : (v : ℤ) → Short v → costOf v < 4294967295 → costOf v ≤ 2147483648
-cost-range v s = cond-ind (λ (g : ℕ). g < 4294967295 → g ≤ 2147483648) (isMark v) (λ _ l. absurd (omega arith)) (λ _ l. omega (arith, square-fits v s))
-
--- the ways and costs of the first k columns stand in slices of the same length, and the costs are in the range of the envelope
+-- the ways and costs of the first k columns stand in slices of the same length
 pub record Pricing (m : List ℤ) (base w : ℕ) (ways₀ : List ℤ) (cost₀ : List ℕ) (k : ℕ) (ways : List ℤ) (cost : List ℕ) : Type 0 where
   pub on : k ≤ w
   pub ways-long : length ways ≡ length ways₀
   pub cost-long : length cost ≡ length cost₀
   pub priced : Priced m base k ways cost
-  pub range : Costs cost k
 
 module _ {m : List ℤ} {base w : ℕ} {ways₀ : List ℤ} {cost₀ : List ℕ} where
   pub pricing-none : Pricing m base w ways₀ cost₀ 0 ways₀ cost₀
@@ -37,13 +30,12 @@ module _ {m : List ℤ} {base w : ℕ} {ways₀ : List ℤ} {cost₀ : List ℕ}
     ways-long = refl;
     cost-long = refl;
     priced = record { ways-at = λ j l. absurd (omega arith); costs-at = λ j l. absurd (omega arith) };
-    range = λ j l. absurd (omega arith);
   }
 
   pub pricing-more : {k : ℕ} {ways : List ℤ} {cost : List ℕ} (z : ℤ) {g : ℕ} → Pricing m base w ways₀ cost₀ k ways cost
       → k < w → k < length ways → k < length cost
-      → z ≡ wayAt m base k → Short z → g ≡ costOf z → Pricing m base w ways₀ cost₀ (k + 1) (set ways k z) (set cost k g)
-  pricing-more {k} {ways} {cost} z {g} p h i j e s f = record {
+      → z ≡ wayAt m base k → g ≡ costOf z → Pricing m base w ways₀ cost₀ (k + 1) (set ways k z) (set cost k g)
+  pricing-more {k} {ways} {cost} z {g} p h i j e f = record {
     on = omega arith;
     ways-long = length-set ways k z ∙ p .ways-long;
     cost-long = length-set cost k g ∙ p .cost-long;
@@ -57,14 +49,10 @@ module _ {m : List ℤ} {base w : ℕ} {ways₀ : List ℤ} {cost₀ : List ℕ}
         | no q ↦ getD-set-other cost k a g 0 q ∙ p .priced .costs-at a (omega arith)
       ];
     };
-    range = λ a l. elim (ℕ-discrete a k) [
-      | yes q ↦ rw (q, getD-set-same cost k g 0 j, f) (cost-range z s)
-      | no q ↦ rw (getD-set-other cost k a g 0 q) (p .range a (omega arith))
-    ];
   }
 
-  pub pricing-all : {k : ℕ} {ways : List ℤ} {cost : List ℕ} → Pricing m base w ways₀ cost₀ k ways cost → w ≤ k → Priced m base w ways cost × Costs cost w
-  pricing-all {k} {ways} {cost} p h = let e : k ≡ w = omega (arith, p .on) in rw (← e) (p .priced, p .range)
+  pub pricing-all : {k : ℕ} {ways : List ℤ} {cost : List ℕ} → Pricing m base w ways₀ cost₀ k ways cost → w ≤ k → Priced m base w ways cost
+  pricing-all {k} {ways} {cost} p h = let e : k ≡ w = omega (arith, p .on) in rw (← e) (p .priced)
 
 -- ---- the best column goes by the costs of the row alone
 

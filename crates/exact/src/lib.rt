@@ -12,7 +12,7 @@ ghost use lib.IntN.{pos, negsuc, _-ℤ_};
 ghost use lib.ListN.{length, getD};
 ghost use Rattle.raster.specs.Sheet.{copperOf};
 ghost use Rattle.raster.specs.Vector.{Short};
-ghost use Rattle.envelope.specs.Best.{bestSite, Costs, Line};
+ghost use Rattle.envelope.specs.Best.{bestSite, Line};
 ghost use Rattle.envelope.specs.Stack.{holder};
 ghost use Rattle.exact.specs.Nearest.{exactMap, cleared};
 ghost use Rattle.exact.specs.Ways.{farther, up, shorter, costOf, Room, isZero, Spread, Held, shortened, wayAt, rowCosts, Priced, Written, part, Free, CopperRun, CopperEnd, Next, Solved};
@@ -144,10 +144,10 @@ fn way_at(ways: &[i16], i: usize) -> i32
     ways[i] as i32
 }
 
-// The ways and costs of the row that starts at `base`, costs such as the envelope takes.
+// The ways and costs of the row that starts at `base`.
 fn price_row(map: &[i16], base: usize, w: usize, ways: &mut [i16], cost: &mut [u32])
     requires { ⌜ (base + w ≤ length (now map)) × ((w ≤ length (now ways)) × (w ≤ length (now cost))) ⌝ }
-    ensures { λ _. ⌜ Priced (now (map .entry)) base w (now (ways .exit)) (now (cost .exit)) × Costs (now (cost .exit)) w ⌝ }
+    ensures { λ _. ⌜ Priced (now (map .entry)) base w (now (ways .exit)) (now (cost .exit)) ⌝ }
 {
     for k in 0..w {
         let v = way_at(map, base + k);

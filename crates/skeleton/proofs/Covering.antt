@@ -20,10 +20,10 @@ use Rattle.raster.specs.Pixels.{index}
 use Rattle.raster.specs.Sheet.{copperOf}
 use Rattle.raster.specs.Tests.{and-left, and-right}
 use Rattle.raster.specs.Vector.{unlabelled}
-use Rattle.envelope.specs.Best.{priceOf, price, Site, Costs, bestSite}
+use Rattle.envelope.specs.Best.{priceOf, price, Site, bestSite}
 use Rattle.envelope.specs.BestLaws.{Least, best-found}
 use Rattle.skeleton.specs.Skeleton.{covers}
-use Rattle.skeleton.specs.Rebuild.{rowOf, line, costOf, Priced, hitBy}
+use Rattle.skeleton.specs.Rebuild.{rowOf, line, costOf, Priced, Costs, hitBy}
 
 -- two tests that say the same
 pub same : (a b : Bool) → (a ≡ true → b ≡ true) → (b ≡ true → a ≡ true) → a ≡ b

@@ -41,7 +41,7 @@ module _ (m : List ℤ) (w h : ℕ) (marks : List ℕ) (up : Bool) where
 
   -- the t-th row, y: raised by the stack's holders, it is raised by what the row covers; and what is marked
   pub row-passed : (y : ℕ) {t : ℕ} {cost site start : List ℕ} {c : ℕ} {r s o q : List ℕ} → y ≡ rowOf up h t → w ≤ 2048
-      → Priced m marks (y * w) w cost → Built cost w w site start c
+      → Priced m marks (y * w) w cost → Built cost w site start c
       → RowRaised t h 0 w (λ x. hitBy cost t x (holder site start c x)) r s
       → RowWritten (y * w) w (λ x. cond (ltb t (getD s x 0)) 1 (getD o (y * w + x) 0)) o q
       → RowRaised t h 0 w (λ x k. line m w h marks x (rowOf up h k) (rowOf up h t)) r s

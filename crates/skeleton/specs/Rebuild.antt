@@ -33,6 +33,10 @@ pub record Priced (m : List ℤ) (marks : List ℕ) (base w : ℕ) (cost : List 
   pub costs : (k : ℕ) → k < w → getD cost k 0 ≡ costOf m marks (base + k)
   pub sizes : (k : ℕ) → k < w → Site cost k → sizeAt m (base + k) ≤ 2147483648
 
+-- what those costs are: at most 2^31, or that of no site
+abbrev pub Costs : List ℕ → ℕ → Type 0
+Costs cost n = (k : ℕ) → k < n → Site cost k → getD cost k 0 ≤ 2147483648
+
 -- ---- how far a column is covered: the rows of the pass before the r-th
 
 -- a site at s of cost g, in the t-th row, covers the pixel x of the k-th

@@ -6,12 +6,12 @@ ghost use lib.Dec.{eqb, ltb};
 ghost use lib.ListN.{length, getD};
 ghost use Rattle.raster.specs.Distance.{gap};
 ghost use Rattle.raster.specs.Map.{Inside, sizeAt};
-ghost use Rattle.envelope.specs.Best.{priceOf, Costs};
+ghost use Rattle.envelope.specs.Best.{priceOf};
 ghost use Rattle.envelope.specs.Stack.{Entries, holder};
 ghost use Rattle.skeleton.specs.Skeleton.{kept, skeletonOf, rebuilt};
 ghost use Rattle.skeleton.specs.Rows.{RowWritten};
 ghost use Rattle.skeleton.specs.Bands.{Listed, counted, Framed, Blank, Measured, Band, keptIn};
-ghost use Rattle.skeleton.specs.Rebuild.{rowOf, line, costOf, Priced, hits, hitBy, Raised, RowRaised, Passed};
+ghost use Rattle.skeleton.specs.Rebuild.{rowOf, line, costOf, Priced, Costs, hits, hitBy, Raised, RowRaised, Passed};
 
 // g4(n) at place n − 1: the least squared distance from a side neighbour of a place outside the disk of size n.
 const G4: [u16; 400] = [
@@ -1113,7 +1113,7 @@ fn raise_row(
 )
     requires { ⌜ (n ≤ length (now reach)) × ((n ≤ 2048) × ((h ≤ 2048) × (t < h))) ⌝ }
     requires { ⌜ (n ≤ length (now cost)) × ((count ≤ length (now site)) × (count ≤ length (now start))) ⌝ }
-    requires { ⌜ Entries (now cost) n n (now site) (now start) count ⌝ }
+    requires { ⌜ Entries (now cost) n (now site) count ⌝ }
     requires { ⌜ Costs (now cost) n ⌝ }
     ensures { λ _. ⌜ RowRaised t h 0 n (λ x. hitBy (now (cost .entry)) t x (holder (now (site .entry)) (now (start .entry)) count x)) (now (reach .entry)) (now (reach .exit)) ⌝ }
 {

@@ -1,5 +1,6 @@
 //! The exact map in plain safe Rust by the library's algorithm: two passes over the rows find the nearest copper of each column, then each
-//! row is worked out by itself from the lower envelope of its columns' parabolas. The ways stand in the first half of the map.
+//! row is worked out by itself, in parts between long runs of copper, from the lower envelope of its columns' parabolas. The ways stand in the
+//! first half of the map.
 
 pub(crate) type Pixel = [i16; 2];
 
@@ -21,12 +22,34 @@ pub fn exact(sheet: &[u8], map: &mut [i16], scratch: &mut [i16], w: usize, h: us
     // from the last row, for a row's vectors lie behind the ways of the rows above it
     for y in (0..h).rev() {
         ways[..w].copy_from_slice(&map[y * w..][..w]);
-        let count = envelope(ways[..w].iter().map(cost), &mut stack);
         let (row, _) = map[2 * y * w..2 * (y + 1) * w].as_chunks_mut();
-        write(row, &ways, &stack[..count]);
+        solve(row, &ways[..w], &mut stack);
     }
     scratch[..w * h].fill(0);
 }
+
+/// Writes a row's vectors. The copper pixels at the ends of a run split the row: neither side's best columns lie on the other.
+fn solve(row: &mut [Pixel], ways: &[i16], stack: &mut [Entry]) {
+    let w = row.len();
+    let (mut from, mut done) = (0, 0);
+    while done < w {
+        let run = long_run(&ways[done..]).map_or(w, |x| done + x);
+        let part = from..(run + 1).min(w);
+        let count = envelope(ways[part.clone()].iter().map(cost), stack);
+        write(&mut row[part.clone()], &ways[part], &stack[..count]);
+        done = ways[run..].iter().position(|&way| way != 0).map_or(w, |x| run + x);
+        row[run..done].fill([0; 2]);
+        from = done - 1;
+    }
+}
+
+/// A place from which on at least `RUN` pixels are copper, looked for at every `RUN`th.
+fn long_run(ways: &[i16]) -> Option<usize> {
+    ways.chunks_exact(RUN).position(|part| part.iter().all(|&way| way == 0)).map(|part| part * RUN)
+}
+
+/// So many copper pixels split the row.
+const RUN: usize = 32;
 
 /// Leaves how far the nearest copper above a pixel is, 0 on copper and −1 if there is none.
 fn upwards(sheet: &[u8], ways: &mut [i16], w: usize) {
@@ -85,27 +108,48 @@ pub(crate) struct Entry {
 /// most 2³¹.
 pub(crate) fn envelope(costs: impl ExactSizeIterator<Item = Option<u32>>, stack: &mut [Entry]) -> usize {
     let w = costs.len() as i32;
+    let count = hull(costs, stack);
+    for entry in 1..count {
+        let (before, here) = (stack[entry - 1], stack[entry]);
+        let start = (here.sum - before.sum) as u32 / (2 * (here.site - before.site)) as u32 + 1;
+        if start as i32 >= w {
+            return entry;
+        }
+        stack[entry].start = start as i32;
+    }
+    count
+}
+
+/// Stacks the corners of the lower convex hull of the points (column, sum): only those are best anywhere.
+fn hull(costs: impl ExactSizeIterator<Item = Option<u32>>, stack: &mut [Entry]) -> usize {
     let mut count = 0;
-    let mut top = Entry::default();
+    let (mut before, mut top) = (Entry::default(), Entry::default());
     for (site, cost) in costs.enumerate() {
         let Some(cost) = cost else { continue };
         let site = site as i32;
         let sum = i64::from(site * site) + i64::from(cost);
-        // this column is better than the top's at x if `sum - top.sum` is below `2 * (site - top.site) * x`
-        while count > 0 && sum - top.sum < i64::from(2 * (site - top.site) * top.start) {
+        let next = Entry { site, start: 0, sum };
+        while count > 1 && covers(before, top, next) {
             count -= 1;
-            if count > 0 {
-                top = stack[count - 1];
+            top = before;
+            if count > 1 {
+                before = stack[count - 2];
             }
         }
-        let start = if count == 0 { 0 } else { ((sum - top.sum) as u32 / (2 * (site - top.site)) as u32 + 1) as i32 };
-        if start < w {
-            top = Entry { site, start, sum };
-            stack[count] = top;
-            count += 1;
+        if count == 1 && sum < top.sum {
+            count = 0;
         }
+        (before, top) = (top, next);
+        stack[count] = top;
+        count += 1;
     }
     count
+}
+
+/// Whether the middle point lies on or above the line through the others.
+fn covers(left: Entry, middle: Entry, right: Entry) -> bool {
+    let apart = |a: Entry, b: Entry| i64::from(b.site - a.site);
+    right.sum * apart(left, middle) + left.sum * apart(middle, right) <= middle.sum * apart(left, right)
 }
 
 /// Writes the row's vectors, from the last run to the first.

@@ -11,7 +11,7 @@ starts-requires : tie.Need-starts-requires
 starts-requires c κs =
     let u = c .before .before .before .before .hull in
     let l = c .before .before .before .before .before .before .before .before .before .pre in
-    (record { short = l .short; costs = l .costs; sites = omega (arith, l .sites, u .kept); starts = l .starts; range = l .range }, u .ensures)
+    (record { short = l .short; costs = l .costs; sites = omega (arith, l .sites, u .kept); starts = l .starts }, u .ensures)
 
 returns : tie.Need-returns
 returns c =

@@ -25,7 +25,7 @@ loop-holds : tie.Need-loop-holds Inv-loop μ-loop
 loop-holds c =
     let s = c .before .before .before .before in
     let p : 0 < s .args .count = omega (arith, c .if1 .left) in
-    (omega arith, (omega arith, (refl, starting-one (s .args .start .now) (omega (arith, s .pre .1 .few)) (omega (arith, s .pre .0 .starts, s .pre .1 .few)))))
+    (omega arith, (omega arith, (refl, starting-one (s .args .start .now) (omega (arith, s .pre .0 .starts, s .pre .1 .few)))))
 
 -- the slice is as long as it was
 long : (c : tie.At-loop Inv-loop μ-loop) → length (c .loop .start) ≡ length (c .before .before .before .before .before .args .start .now)
@@ -57,7 +57,7 @@ loop-again : tie.Need-loop-again Inv-loop μ-loop
 loop-again c =
     let l = c .before .before .before .loop in
     let i = l .inv in
-    (omega arith, (omega arith, (length-set (l .start) (l .j) (c .before .start-of .result) ∙ i .1 .1 .0, starting-on (i .1 .1 .1) (i .0) (c .before .start-of .ensures) (omega arith) (slice-write-start-2 c))))
+    (omega arith, (omega arith, (length-set (l .start) (l .j) (c .before .start-of .result) ∙ i .1 .1 .0, starting-on (i .1 .1 .1) (i .0) (c .before .start-of .ensures) (slice-write-start-2 c))))
 
 returns-3 : tie.Need-returns-3 Inv-loop μ-loop
 returns-3 c = search (needs, started-all)

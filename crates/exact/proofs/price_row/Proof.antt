@@ -38,7 +38,7 @@ loop-again c =
     let l = v .before .before .loop in
     let e = simp (toZ-ofZ, way-fits v) at (c .cost-of .ensures) in
     simp (toZ-ofZ, way-fits v, way-short v)
-    (pricing-more (v .way-at .result) (l .inv) (omega arith) (omega arith) (omega arith) (v .way-at .ensures .0) (v .way-at .ensures .1) e)
+    (pricing-more (v .way-at .result) (l .inv) (omega arith) (omega arith) (omega arith) (v .way-at .ensures .0) e)
 
 returns : tie.Need-returns Inv-loop μ-loop
 returns c = pricing-all (c .before .loop .inv) (omega arith)

@@ -20,9 +20,8 @@ solve-parts-requires c κs =
           costs = omega (arith, p .price-row .kept, s .1);
           sites = s .1 .1 .1 .0;
           starts = s .1 .1 .1 .1;
-          range = p .price-row .ensures .1;
         },
-        priced-free (p .price-row .ensures .0),
+        priced-free (p .price-row .ensures),
       ),
     )
 
@@ -30,7 +29,7 @@ returns : tie.Need-returns
 returns c =
     let r = c .before .before .before .before .before in
     let p = r .before .before .before .before .before .before .before .before .before in
-    row-solved (start p .pre .0 .1) (p .price-row .ensures .0) (r .solve-parts .ensures)
+    row-solved (start p .pre .0 .1) (p .price-row .ensures) (r .solve-parts .ensures)
 
 pub solve-row-spec : {M : Type 1} → statement M
 solve-row-spec =

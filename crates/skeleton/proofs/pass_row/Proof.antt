@@ -37,7 +37,6 @@ build-requires c κs =
       costs = omega (arith, p .price-row .kept, s .1 .1);
       sites = s .1 .1 .1 .1 .0;
       starts = s .1 .1 .1 .1 .1;
-      range = priced-range (p .price-row .ensures);
     }
 
 raise-row-requires : tie.Need-raise-row-requires
