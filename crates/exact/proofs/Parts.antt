@@ -12,7 +12,7 @@ use Rattle.raster.specs.Map.{dxAt, dyAt}
 use Rattle.envelope.specs.Best.{bestSite, Line}
 use Rattle.exact.specs.Ways.{across, along, Written, part, Free, CopperRun, CopperEnd, Next}
 use Rattle.exact.proofs.Runs.{across-site, along-site, run-none, run-same, run-over}
-use Rattle.exact.proofs.Split.{Part, part-at, Same, best-part, best-copper}
+use Rattle.exact.proofs.Split.{free-each, Part, part-at, Same, best-part, best-copper}
 
 -- ---- a part
 
@@ -91,13 +91,6 @@ copper-solved {w = w} ways {cost = cost} few free c r = run-same r (λ x i j.
     let l : x < w = omega (arith, c .on) in
     (best-copper cost w x few l z, ap (λ (t : ℤ). along (λ _. t) x) (sym (free x l z))))
 
--- copper at x ends beyond it
-copper-more : {cost : List ℕ} {x w e : ℕ} → CopperEnd cost x w e → getD cost x 0 ≡ 0 → x < w → x < e
-copper-more {cost} {x} {w} {e} c z l = elim (decLt x e) [
-  | yes h ↦ h
-  | no h ↦ let s : e ≡ x = omega (arith, c .after) in absurd (omega (arith, rw s at (c .ends (omega arith)), z))
-]
-
 -- a part, and the copper after it
 pub next-solved : {base w lo done x hi e : ℕ} (ways : List ℤ) {cost : List ℕ} {m n o : List ℤ} → w ≤ 2048 → Free w ways cost
     → lo ≤ done → done < w → (0 < lo → getD cost lo 0 ≡ 0)
@@ -114,10 +107,10 @@ next-solved {base} {w} {lo} {done} {x} {hi} {e} ways {cost} few free behind more
 }
   where
     right : hi < w → getD cost (hi - 1) 0 ≡ 0
-    right l = let s : hi - 1 ≡ x = omega arith in rw s (run .copper (omega arith))
+    right l = let s : hi - 1 ≡ x = omega arith in rw s (free-each cost x 8 (run .copper (omega arith)) x (omega arith) (omega arith))
 
     reached : hi ≤ e
-    reached = elim (decLt x w) [ yes l ↦ omega (arith, copper-more c (run .copper l) l) | no l ↦ omega (arith, run .on, c .after) ]
+    reached = elim (decLt x w) [ yes l ↦ omega (arith, c .some (run .room l) (run .copper l)) | no l ↦ omega (arith, run .on, c .after) ]
 
 -- ---- all parts
 

@@ -2,18 +2,42 @@
 -- two such ends is worked out by itself.
 -- Assumes nothing.
 use mathlib.Core.Path.{_≡_, refl, sym, _∙_}
+use mathlib.Core.Bool.{Bool, true, _&&_}
 use mathlib.Core.Logic.{_⊎_, inl, inr}
 use mathlib.Core.List.{List}
-use Prim.Native.Nat.{ℕ, _+_, _-_, _<_, _≤_}
-use native.Mathlib.Decide.{decLt}
+use Prim.Native.Nat.{ℕ, zero, suc, _+_, _-_, _<_, _≤_}
+use native.Mathlib.Decide.{decLt, ℕ-discrete}
+use native.Mathlib.Numerals.{add-one}
 use native.Mathlib.Omega.{arith}
+use lib.Dec.{eqb}
 use lib.ListN.{getD}
 use lib.Seq.{getD-take, getD-drop}
 use Rattle.raster.specs.Distance.{gap}
+use borrow.Author.Tests.{eqb-true}
+use Rattle.raster.specs.Tests.{and-left, and-right}
 use Rattle.raster.specs.DistanceLaws.{gap-self, square-le}
 use Rattle.envelope.specs.Best.{priceOf, price, Site, bestSite}
 use Rattle.envelope.specs.BestLaws.{Found, best-found}
-use Rattle.exact.specs.Ways.{part}
+use Rattle.exact.specs.Ways.{part, freeFrom}
+
+-- ---- columns that cost nothing
+
+pub free-none : (cost : List ℕ) (x : ℕ) → true ≡ freeFrom cost x 0
+unfolding freeFrom
+free-none cost x = refl
+
+pub free-more : (cost : List ℕ) (x i : ℕ) {a b : Bool} → b ≡ (a && eqb (getD cost (x + i) 0) 0) → a ≡ freeFrom cost x i → b ≡ freeFrom cost x (i + 1)
+unfolding freeFrom
+free-more cost x i e f = rw (add-one i) (e ∙ rw f)
+
+-- each of them costs nothing
+pub free-each : (cost : List ℕ) (x n : ℕ) → freeFrom cost x n ≡ true → (k : ℕ) → x ≤ k → k < x + n → getD cost k 0 ≡ 0
+unfolding freeFrom
+free-each cost x zero e k i l = absurd (omega arith)
+free-each cost x (suc n) e k i l = elim (ℕ-discrete k (x + n)) [
+  | yes q ↦ rw q (eqb-true _ _ (and-right (freeFrom cost x n) _ e))
+  | no q ↦ free-each cost x n (and-left (freeFrom cost x n) _ e) k i (omega arith)
+]
 
 -- ---- the best site
 

@@ -2,7 +2,7 @@
 -- cost in the envelope of a row.
 -- Assumes nothing.
 use mathlib.Core.Path.{_≡_}
-use mathlib.Core.Bool.{Bool, true, false, cond}
+use mathlib.Core.Bool.{Bool, true, false, cond, _&&_}
 use mathlib.Core.List.{List}
 use Prim.Native.Nat.{ℕ, zero, suc, _+_, _-_, _*_, _<_, _≤_}
 use lib.Dec.{leb, eqb}
@@ -116,18 +116,24 @@ part lo hi s = take (hi - lo) (drop lo s)
 abbrev pub Free : (w : ℕ) → List ℤ → List ℕ → Type 0
 Free w ways cost = (k : ℕ) → k < w → getD cost k 0 ≡ 0 → getD ways k (pos 0) ≡ pos 0
 
--- x is copper, at or after `from`, or the end of the row
+-- the n columns from x on cost nothing
+unfoldable pub freeFrom : List ℕ → (x n : ℕ) → Bool
+freeFrom cost x zero = true
+freeFrom cost x (suc n) = freeFrom cost x n && eqb (getD cost (x + n) 0) 0
+
+-- x is the first of eight copper columns, at or after `from`, or the end of the row
 pub record CopperRun (cost : List ℕ) (from w x : ℕ) : Type 0 where
   pub after : from ≤ x
   pub on : x ≤ w
-  pub copper : x < w → getD cost x 0 ≡ 0
+  pub room : x < w → x + 8 ≤ w
+  pub copper : x < w → freeFrom cost x 8 ≡ true
 
--- the copper from `from` on ends before e
+-- all columns from `from` to e − 1 are copper, and there are some where eight of them are
 pub record CopperEnd (cost : List ℕ) (from w e : ℕ) : Type 0 where
   pub after : from ≤ e
   pub on : e ≤ w
   pub copper : (k : ℕ) → from ≤ k → k < e → getD cost k 0 ≡ 0
-  pub ends : e < w → 0 < getD cost e 0
+  pub some : from + 8 ≤ w → freeFrom cost from 8 ≡ true → from < e
 
 -- the pixels from lo to e − 1 are written, more than the first `done`, and the last is copper where the row goes on
 pub record Next (base w lo done : ℕ) (ways : List ℤ) (cost : List ℕ) (before : List ℤ) (e : ℕ) (after : List ℤ) : Type 0 where

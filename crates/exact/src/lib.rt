@@ -5,7 +5,7 @@
 // gives the nearest column of each pixel. Long runs of copper split a row into parts with an envelope each. The rows are worked out from the last to the
 // first, since the vectors of row y stand behind the ways of the rows above it. The working rows are local ones of 2,048 numbers.
 ghost use mathlib.Core.Path.{_≡_};
-ghost use mathlib.Core.Bool.{not};
+ghost use mathlib.Core.Bool.{not, _&&_};
 ghost use Prim.Native.Nat.{ℕ, _+_, _-_, _*_, _≤_, _<_};
 ghost use lib.Dec.{eqb};
 ghost use lib.IntN.{pos, negsuc, _-ℤ_};
@@ -15,7 +15,7 @@ ghost use Rattle.raster.specs.Vector.{Short};
 ghost use Rattle.envelope.specs.Best.{bestSite, Line};
 ghost use Rattle.envelope.specs.Stack.{holder};
 ghost use Rattle.exact.specs.Nearest.{exactMap, cleared};
-ghost use Rattle.exact.specs.Ways.{farther, up, shorter, costOf, Room, isZero, Spread, Held, shortened, wayAt, rowCosts, Priced, Written, part, Free, CopperRun, CopperEnd, Next, Solved};
+ghost use Rattle.exact.specs.Ways.{farther, up, shorter, costOf, Room, isZero, Spread, Held, shortened, wayAt, rowCosts, Priced, Written, part, Free, freeFrom, CopperRun, CopperEnd, Next, Solved};
 
 // ---- the ways within the columns
 
@@ -215,34 +215,57 @@ fn write_row(
     clear_run(map, base, to);
 }
 
-// The first place from `from` on that costs something, or w.
-fn copper_end(cost: &[u32], from: usize, w: usize) -> usize
-    requires { ⌜ (from ≤ w) × (w ≤ length (now cost)) ⌝ }
-    ensures { λ r. ⌜ CopperEnd (now (cost .entry)) from w r ⌝ }
+// Whether a stretch that cost nothing so far still does with the cost g.
+fn still_free(free: bool, g: u32) -> bool
+    ensures { λ r. ⌜ r ≡ free && eqb g 0 ⌝ }
 {
-    let mut x = from;
-    while x < w {
-        if cost[x] != 0 {
-            return x;
-        }
-        x += 1;
+    if g != 0 {
+        return false;
     }
-    x
+    free
 }
 
-// Where a run of copper starts that is long enough to split the row: 32 places. Looked for at `from`, `from` + 32 and so on only; w if none is found.
+// Whether the eight columns from x on are copper. No jump out of the loop, so that they are looked at all at once.
+fn is_copper(cost: &[u32], x: usize) -> bool
+    requires { ⌜ x + 8 ≤ length (now cost) ⌝ }
+    ensures { λ r. ⌜ r ≡ freeFrom (now (cost .entry)) x 8 ⌝ }
+{
+    let mut free = true;
+    for i in 0..8 {
+        free = still_free(free, cost[x + i]);
+    }
+    free
+}
+
+// Where a run of at least eight copper pixels starts or goes on, which splits the row. Looked for at every 32nd place only; w if none is found.
 fn copper_run(cost: &[u32], from: usize, w: usize) -> usize
-    requires { ⌜ (from ≤ w) × (w ≤ length (now cost)) ⌝ }
+    requires { ⌜ (from ≤ w) × ((w ≤ 2048) × (w ≤ length (now cost))) ⌝ }
     ensures { λ r. ⌜ CopperRun (now (cost .entry)) from w r ⌝ }
 {
     let mut x = from;
-    while x + 32 <= w {
-        if copper_end(cost, x, x + 32) == x + 32 {
+    while x + 8 <= w {
+        if is_copper(cost, x) {
             return x;
         }
         x += 32;
     }
     w
+}
+
+// How far the run goes on from `from`, in steps of eight.
+fn copper_end(cost: &[u32], from: usize, w: usize) -> usize
+    requires { ⌜ (from ≤ w) × ((w ≤ 2048) × (w ≤ length (now cost))) ⌝ }
+    ensures { λ r. ⌜ CopperEnd (now (cost .entry)) from w r ⌝ }
+{
+    let mut x = from;
+    while x + 8 <= w {
+        if is_copper(cost, x) {
+            x += 8;
+        } else {
+            return x;
+        }
+    }
+    x
 }
 
 // The pixels from `from` to `to` − 1 of the row are copper: each goes to itself.

@@ -33,23 +33,24 @@ fn solve(row: &mut [Pixel], ways: &[i16], stack: &mut [Entry]) {
     let w = row.len();
     let (mut from, mut done) = (0, 0);
     while done < w {
-        let run = long_run(&ways[done..]).map_or(w, |x| done + x);
+        let run = (done..w.saturating_sub(RUN - 1)).step_by(STEP).find(|&x| is_copper(&ways[x..x + RUN])).unwrap_or(w);
         let part = from..(run + 1).min(w);
         let count = envelope(ways[part.clone()].iter().map(cost), stack);
         write(&mut row[part.clone()], &ways[part], &stack[..count]);
-        done = ways[run..].iter().position(|&way| way != 0).map_or(w, |x| run + x);
+        done = run + RUN * ways[run..].chunks_exact(RUN).take_while(|part| is_copper(part)).count();
         row[run..done].fill([0; 2]);
         from = done - 1;
     }
 }
 
-/// A place from which on at least `RUN` pixels are copper, looked for at every `RUN`th.
-fn long_run(ways: &[i16]) -> Option<usize> {
-    ways.chunks_exact(RUN).position(|part| part.iter().all(|&way| way == 0)).map(|part| part * RUN)
+/// Whether all these pixels are copper. Without a jump out of the loop, so that they are looked at all at once.
+fn is_copper(ways: &[i16]) -> bool {
+    ways.iter().fold(true, |copper, &way| copper & (way == 0))
 }
 
-/// So many copper pixels split the row.
-const RUN: usize = 32;
+/// So many copper pixels split the row, looked for at every `STEP`th.
+const RUN: usize = 8;
+const STEP: usize = 32;
 
 /// Leaves how far the nearest copper above a pixel is, 0 on copper and −1 if there is none.
 fn upwards(sheet: &[u8], ways: &mut [i16], w: usize) {

@@ -1,10 +1,12 @@
--- `exact::copper_end` meets its contract. The invariant: all places from `from` to x − 1 are copper.
+-- `exact::copper_end` meets its contract. The invariant: all columns from `from` to x − 1 are copper.
 -- Assumes nothing.
-use mathlib.Core.Path.{_≡_}
+use mathlib.Core.Path.{_≡_, sym, _∙_}
 use Prim.Native.Nat.{ℕ, _-_, _≤_, _<_}
-use native.Mathlib.Decide.{ℕ-discrete}
+use native.Mathlib.Decide.{decLt, ℕ-discrete}
 use native.Mathlib.Omega.{arith}
+use mathlib.Core.Bool.{false≢true}
 use lib.ListN.{getD}
+use Rattle.exact.proofs.Split.{free-each}
 use Rattle.exact.proofs.copper_end.Statement.{statement}
 use Rattle.exact.proofs.copper_end.Tie as tie
 
@@ -17,20 +19,34 @@ abbrev μ-loop : tie.MeasureT-loop
 loop-holds : tie.Need-loop-holds Inv-loop μ-loop
 loop-holds c = (omega arith, (omega arith, λ k i l. absurd (omega arith)))
 
-returns : tie.Need-returns Inv-loop μ-loop
-returns c =
-    let i = c .before .before .before .loop .inv in
-    record { after = i .0; on = i .1 .0; copper = i .1 .1; ends = λ l. omega arith }
-
 loop-again : tie.Need-loop-again Inv-loop μ-loop
 loop-again c =
     let l = c .before .before .before .loop in
-    (omega arith, (omega arith, λ k i j. elim (ℕ-discrete k (l .x)) [ yes e ↦ rw e (omega arith) | no n ↦ l .inv .1 .1 k i (omega arith) ]))
+    let s = c .before .before .before .before .before in
+    let e = sym (c .before .is-copper .ensures) ∙ c .if1 .taken in (
+      omega arith,
+      (
+        omega arith,
+        λ k i j. elim (decLt k (l .x)) [ yes b ↦ l .inv .1 .1 k i b | no b ↦ free-each (s .args .cost .now) (l .x) 8 e k (omega arith) j ],
+      ),
+    )
+
+returns : tie.Need-returns Inv-loop μ-loop
+returns c =
+    let i = c .before .before .before .loop .inv in
+    let s = c .before .before .before .before .before in
+    record {
+      after = i .0;
+      on = i .1 .0;
+      copper = i .1 .1;
+      some = λ l e. elim (ℕ-discrete (s .args .from) (c .before .before .before .loop .x)) [
+        | yes q ↦ absurd (false≢true (sym (c .if1 .left) ∙ c .before .is-copper .ensures ∙ rw (← q) e))
+        | no q ↦ omega arith
+      ];
+    }
 
 returns-2 : tie.Need-returns-2 Inv-loop μ-loop
-returns-2 c =
-    let i = c .before .loop .inv in
-    record { after = i .0; on = i .1 .0; copper = i .1 .1; ends = λ l. absurd (omega arith) }
+returns-2 c = let i = c .before .loop .inv in record { after = i .0; on = i .1 .0; copper = i .1 .1; some = λ l e. omega arith }
 
 pub copper-end-spec : {M : Type 1} → statement M
 copper-end-spec =
@@ -40,9 +56,9 @@ copper-end-spec =
     μ-loop
     loop-holds
     (λ c. omega arith)
-    (λ c. omega arith)
-    returns
+    (λ c κs. omega arith)
     (λ c. omega arith)
     (λ c. omega arith)
     loop-again
+    returns
     returns-2)

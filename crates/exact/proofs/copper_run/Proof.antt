@@ -1,20 +1,19 @@
--- `exact::copper_run` meets its contract: where all 32 places are copper, the first of them is.
+-- `exact::copper_run` meets its contract: it ends where eight columns are copper, or with the row.
 -- Assumes nothing.
+use mathlib.Core.Path.{sym, _∙_}
 use Prim.Native.Nat.{_-_, _≤_}
 use native.Mathlib.Omega.{arith}
 use Rattle.exact.proofs.copper_run.Statement.{statement}
 use Rattle.exact.proofs.copper_run.Tie as tie
 
 abbrev Inv-loop : tie.InvT-loop
-Inv-loop cost from w x₀ x = (from ≤ x) × (x ≤ w)
+Inv-loop cost from w x₀ x = (from ≤ x) × (x ≤ 4096)
 
 abbrev μ-loop : tie.MeasureT-loop
 μ-loop cost from w x₀ x = w - x
 
 returns : tie.Need-returns Inv-loop μ-loop
-returns c =
-    let l = c .before .before .before .loop in
-    record { after = l .inv .0; on = l .inv .1; copper = λ _. c .before .copper-end .ensures .copper (l .x) (omega arith) (omega arith) }
+returns c = record { after = omega arith; on = omega arith; room = λ _. omega arith; copper = λ _. sym (c .before .is-copper .ensures) ∙ c .if1 .taken }
 
 pub copper-run-spec : {M : Type 1} → statement M
 copper-run-spec =
@@ -24,11 +23,9 @@ copper-run-spec =
     μ-loop
     (λ c. omega arith)
     (λ c. omega arith)
-    (λ c. omega arith)
     (λ c κs. omega arith)
-    (λ c. omega arith)
     returns
     (λ c. omega arith)
     (λ c. omega arith)
     (λ c. omega arith)
-    (λ c. record { after = omega arith; on = omega arith; copper = λ l. absurd (omega arith) }))
+    (λ c. record { after = omega arith; on = omega arith; room = λ l. absurd (omega arith); copper = λ l. absurd (omega arith) }))
