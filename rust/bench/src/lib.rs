@@ -34,12 +34,15 @@ mod tests {
 
     fn check_exact(board: &Board, random: &mut Random) {
         let pixels = board.sheet.len();
-        let mut map = anything(2 * pixels, random);
-        let mut scratch = anything(pixels + 5, random);
-        let rest = scratch[pixels..].to_vec();
-        plain_exact::exact(&board.sheet, &mut map, &mut scratch, board.w, board.h);
-        assert!(map == model::exact::outwards(&board.sheet, board.w, board.h).concat(), "{board:?}");
-        assert!(scratch[..pixels].iter().all(|&number| number == 0) && scratch[pixels..] == rest, "{board:?}");
+        let expected = model::exact::outwards(&board.sheet, board.w, board.h).concat();
+        for exact in [plain_exact::exact, plain_exact::exact_fused] {
+            let mut map = anything(2 * pixels, random);
+            let mut scratch = anything(pixels + 5, random);
+            let rest = scratch[pixels..].to_vec();
+            exact(&board.sheet, &mut map, &mut scratch, board.w, board.h);
+            assert!(map == expected, "{board:?}");
+            assert!(scratch[..pixels].iter().all(|&number| number == 0) && scratch[pixels..] == rest, "{board:?}");
+        }
     }
 
     fn check_resize(board: &Board, random: &mut Random) {

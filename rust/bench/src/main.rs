@@ -59,7 +59,7 @@ const WHATS: [What; 7] = [
         ready: |_| {},
         library: |on| abi::exact(on.sheet, on.map, on.scratch, on.w, on.h),
         plain: |on| plain_exact::exact(on.sheet, on.map, on.scratch, on.w, on.h),
-        fused: None,
+        fused: Some(|on| plain_exact::exact_fused(on.sheet, on.map, on.scratch, on.w, on.h)),
     },
     What {
         name: "8SED",

@@ -2,6 +2,8 @@
 //! row is worked out by itself, in parts between long runs of copper, from the lower envelope of its columns' parabolas. The ways stand in the
 //! first half of the map.
 
+use std::ops::Range;
+
 pub(crate) type Pixel = [i16; 2];
 
 pub(crate) const UNLABELLED: Pixel = [-32_768; 2];
@@ -11,6 +13,26 @@ pub(crate) const SIDE: usize = 2_048;
 
 /// Writes the exact map of a sheet. The first `w` × `h` numbers of scratch are 0 afterwards.
 pub fn exact(sheet: &[u8], map: &mut [i16], scratch: &mut [i16], w: usize, h: usize) {
+    let mut costs = [0; SIDE];
+    let mut stack = [Entry::default(); SIDE];
+    work(sheet, map, scratch, w, h, |row, ways| {
+        for (cost, &way) in costs.iter_mut().zip(ways) {
+            *cost = cost_of(way);
+        }
+        solve(row, ways, &mut stack, |part, stack| envelope(costs[part].iter().copied(), stack));
+    });
+}
+
+/// The same, a column's cost worked out only when the envelope asks for it.
+pub fn exact_fused(sheet: &[u8], map: &mut [i16], scratch: &mut [i16], w: usize, h: usize) {
+    let mut stack = [Entry::default(); SIDE];
+    work(sheet, map, scratch, w, h, |row, ways| {
+        solve(row, ways, &mut stack, |part, stack| envelope(ways[part].iter().map(|&way| cost_of(way)), stack));
+    });
+}
+
+/// The passes over the columns, and then `solve` on each row and its ways.
+fn work(sheet: &[u8], map: &mut [i16], scratch: &mut [i16], w: usize, h: usize, mut solve: impl FnMut(&mut [Pixel], &[i16])) {
     assert!(w <= SIDE && h <= SIDE && sheet.len() == w * h && map.len() == 2 * w * h && scratch.len() >= w * h);
     if w == 0 {
         return;
@@ -18,24 +40,24 @@ pub fn exact(sheet: &[u8], map: &mut [i16], scratch: &mut [i16], w: usize, h: us
     upwards(sheet, &mut map[..w * h], w);
     shorter(&mut map[..w * h], w);
     let mut ways = [0; SIDE];
-    let mut stack = [Entry::default(); SIDE];
     // from the last row, for a row's vectors lie behind the ways of the rows above it
     for y in (0..h).rev() {
         ways[..w].copy_from_slice(&map[y * w..][..w]);
         let (row, _) = map[2 * y * w..2 * (y + 1) * w].as_chunks_mut();
-        solve(row, &ways[..w], &mut stack);
+        solve(row, &ways[..w]);
     }
     scratch[..w * h].fill(0);
 }
 
-/// Writes a row's vectors. The copper pixels at the ends of a run split the row: neither side's best columns lie on the other.
-fn solve(row: &mut [Pixel], ways: &[i16], stack: &mut [Entry]) {
+/// Writes a row's vectors; `envelope` stacks the best columns of a part of it. The copper pixels at the ends of a run split the row: neither
+/// side's best columns lie on the other.
+fn solve(row: &mut [Pixel], ways: &[i16], stack: &mut [Entry], envelope: impl Fn(Range<usize>, &mut [Entry]) -> usize) {
     let w = row.len();
     let (mut from, mut done) = (0, 0);
     while done < w {
         let run = (done..w.saturating_sub(RUN - 1)).step_by(STEP).find(|&x| is_copper(&ways[x..x + RUN])).unwrap_or(w);
         let part = from..(run + 1).min(w);
-        let count = envelope(ways[part.clone()].iter().map(cost), stack);
+        let count = envelope(part.clone(), stack);
         write(&mut row[part.clone()], &ways[part], &stack[..count]);
         done = run + RUN * ways[run..].chunks_exact(RUN).take_while(|part| is_copper(part)).count();
         row[run..done].fill([0; 2]);
@@ -86,13 +108,16 @@ fn farther(copper: bool, from: i16) -> i16 {
 /// The way of a column without copper.
 const NONE: i16 = -32_768;
 
+/// The cost of a column without copper.
+pub(crate) const NO_SITE: u32 = u32::MAX;
+
 /// What a column costs: the square of its way.
-fn cost(&way: &i16) -> Option<u32> {
+fn cost_of(way: i16) -> u32 {
     let way = i32::from(way);
     if way == i32::from(NONE) {
-        None
+        NO_SITE
     } else {
-        Some((way * way) as u32)
+        (way * way) as u32
     }
 }
 
@@ -105,9 +130,8 @@ pub(crate) struct Entry {
     pub sum: i64,
 }
 
-/// Stacks the columns that are best for some pixel of the row, and says how many. Among equals a pixel stays with the earlier. A cost is at
-/// most 2³¹.
-pub(crate) fn envelope(costs: impl ExactSizeIterator<Item = Option<u32>>, stack: &mut [Entry]) -> usize {
+/// Stacks the columns that are best for some pixel of the row, and says how many. Among equals a pixel stays with the earlier.
+pub(crate) fn envelope(costs: impl ExactSizeIterator<Item = u32>, stack: &mut [Entry]) -> usize {
     let w = costs.len() as i32;
     let count = hull(costs, stack);
     for entry in 1..count {
@@ -122,11 +146,13 @@ pub(crate) fn envelope(costs: impl ExactSizeIterator<Item = Option<u32>>, stack:
 }
 
 /// Stacks the corners of the lower convex hull of the points (column, sum): only those are best anywhere.
-fn hull(costs: impl ExactSizeIterator<Item = Option<u32>>, stack: &mut [Entry]) -> usize {
+fn hull(costs: impl ExactSizeIterator<Item = u32>, stack: &mut [Entry]) -> usize {
     let mut count = 0;
     let (mut before, mut top) = (Entry::default(), Entry::default());
     for (site, cost) in costs.enumerate() {
-        let Some(cost) = cost else { continue };
+        if cost == NO_SITE {
+            continue;
+        }
         let site = site as i32;
         let sum = i64::from(site * site) + i64::from(cost);
         let next = Entry { site, start: 0, sum };

@@ -1,6 +1,6 @@
 //! Skeleton and rebuild in plain safe Rust by the library's algorithms.
 
-use crate::plain_exact::{envelope, Entry, Pixel, SIDE, UNLABELLED};
+use crate::plain_exact::{envelope, Entry, Pixel, NO_SITE, SIDE, UNLABELLED};
 
 /// The size of an unlabelled pixel, above all others.
 const NONE: u32 = 1 << 31;
@@ -135,8 +135,11 @@ fn pass(map: &[Pixel], marks: &[u8], out: &mut [u8], w: usize, h: usize, row: im
 
 /// The least, over the marked pixels of a row, of 2³¹ less the size plus the squared distance along the row. Below 2³¹ the pixel is covered.
 fn price(row: &[Pixel], marks: &[u8], stack: &mut [Entry], prices: &mut [u32]) {
-    let counts = |(&pixel, &mark): (&Pixel, &u8)| if mark != 0 && pixel != UNLABELLED { Some(NONE - size(pixel)) } else { None };
-    let count = envelope(row.iter().zip(marks).map(counts), stack);
+    let mut costs = [0; SIDE];
+    for ((cost, &pixel), &mark) in costs.iter_mut().zip(row).zip(marks) {
+        *cost = if mark != 0 && pixel != UNLABELLED { NONE - size(pixel) } else { NO_SITE };
+    }
+    let count = envelope(costs[..row.len()].iter().copied(), stack);
     let mut rest = prices;
     for entry in stack[..count].iter().rev() {
         let (left, run) = rest.split_at_mut(entry.start as usize);
