@@ -1,7 +1,8 @@
 -- The signed numbers of the ways, once: what `farther`, `shorter` and `costOf` make of a number by the tests on its sign, and that it fits.
 -- Assumes nothing.
-use mathlib.Core.Path.{_≡_, refl, ap}
+use mathlib.Core.Path.{_≡_, refl, sym}
 use mathlib.Core.Bool.{Bool, true, false, true≢false, cond}
+use mathlib.Core.Logic.{_⊎_, inl, inr}
 use Prim.Native.Nat.{ℕ, zero, suc, _+_, _*_, _-_, _<_, _≤_}
 use native.Mathlib.Nat.{mul-le-mul}
 use native.Mathlib.Omega.{arith}
@@ -10,9 +11,7 @@ use lib.IntN.{ℤ, pos, negsuc, negℤ, natAbs, _+ℤ_, _-ℤ_}
 use lib.Signed.{ltZ, leZ}
 use mir.Syntax.{w16, w32}
 use mir.Val.{SFits, ofZ}
-use borrow.Author.Tests.{ltb-true, ne-eqb}
-use Rattle.raster.specs.DistanceLaws.{root-le}
-use Rattle.raster.specs.Tests.{cond-ind}
+use borrow.Author.Tests.{ltb-true, ltb-false, leb-false, le-leb, lt-leb, ne-eqb}
 use Rattle.raster.specs.Vector.{Short, mark, isMark}
 use Rattle.raster.proofs.Signed.{widen, short-wide}
 use Rattle.exact.specs.Ways.{farther, shorter, costOf, Room, isZero}
@@ -43,15 +42,16 @@ shorter-down (pos u) d e f = absurd (omega (arith, ltb-true u 0 e))
 shorter-down (negsuc u) (pos d) e f = refl
 shorter-down (negsuc u) (negsuc d) e f = absurd (true≢false f)
 
-pub shorter-up : (u d : ℤ) → ltZ u (pos 0) ≡ false → ltZ d (pos 0) ≡ true → negℤ u ≡ shorter u d
-shorter-up (negsuc u) d e f = absurd (true≢false e)
-shorter-up (pos u) (pos d) e f = absurd (omega (arith, ltb-true d 0 f))
-shorter-up (pos u) (negsuc d) e f = refl
+pub shorter-less : (u d : ℤ) → ltZ u (pos 0) ≡ false → leZ (pos 0) d ≡ true → ltZ d u ≡ true → d ≡ shorter u d
+shorter-less (negsuc u) d e f g = absurd (true≢false e)
+shorter-less (pos u) (negsuc d) e f g = absurd (true≢false (sym f))
+shorter-less (pos u) (pos d) e f g = rw (lt-leb u d (ltb-true d u g))
 
-pub shorter-both : (u d : ℤ) (t : Bool) → ltZ u (pos 0) ≡ false → ltZ d (pos 0) ≡ false → leZ u d ≡ t → cond t (negℤ u) d ≡ shorter u d
-shorter-both (negsuc u) d t e f g = absurd (true≢false e)
-shorter-both (pos u) (negsuc d) t e f g = absurd (true≢false f)
-shorter-both (pos u) (pos d) t e f g = rw g
+pub shorter-up : (u d : ℤ) → ltZ u (pos 0) ≡ false → (ltZ d u ≡ false) ⊎ (leZ (pos 0) d ≡ false) → negℤ u ≡ shorter u d
+shorter-up (negsuc u) d e f = absurd (true≢false e)
+shorter-up (pos u) (negsuc d) e f = refl
+shorter-up (pos u) (pos d) e (inl f) = rw (le-leb u d (ltb-false d u f))
+shorter-up (pos u) (pos d) e (inr f) = absurd (omega (arith, leb-false 0 d f))
 
 pub minus-fits : (u : ℤ) → ltZ u (pos 0) ≡ false → SFits w16 u → SFits w16 (negℤ u)
 minus-fits (pos zero) e s = omega arith
@@ -71,10 +71,6 @@ cost-none v e = rw e
 
 pub cost-some : (v : ℤ) → isMark v ≡ false → natAbs v * natAbs v ≡ costOf v
 cost-some v e = rw e
-
-pub cost-zero : (v : ℤ) → costOf v ≡ 0 → v ≡ pos 0
-cost-zero (pos n) e = ap pos (omega (arith, root-le n 0 (omega arith)))
-cost-zero (negsuc n) e = absurd (cond-ind (λ (g : ℕ). g ≡ 0 → ⊥) (isMark (negsuc n)) (λ _ h. omega arith) (λ _ h. omega arith) e)
 
 pub square-fits : (v : ℤ) → Short v → natAbs v * natAbs v ≤ 1073741824
 square-fits v s = let n = short-wide v s in mul-le-mul n n

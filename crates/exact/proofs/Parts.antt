@@ -7,30 +7,22 @@ use Prim.Native.Nat.{ℕ, _+_, _-_, _<_, _≤_}
 use native.Mathlib.Decide.{decLt}
 use native.Mathlib.Omega.{arith}
 use lib.IntN.{ℤ, pos, negℤ, _+ℤ_, _-ℤ_, +ℤ-assoc, negℤ-+ℤ, +ℤ-negℤ-cancel}
-use lib.ListN.{getD, length, length-take, length-drop}
+use lib.ListN.{getD, length}
 use Rattle.raster.specs.Map.{dxAt, dyAt}
 use Rattle.envelope.specs.Best.{bestSite, Line}
-use Rattle.exact.specs.Ways.{across, along, Written, part, Free, CopperRun, CopperEnd, Next}
+use Rattle.exact.specs.Ways.{costOf, costsOf, across, along, Written, part, CopperRun, CopperEnd, Next}
+use Rattle.exact.proofs.Prices.{costs-at, priced-best}
 use Rattle.exact.proofs.Runs.{across-site, along-site, run-none, run-same, run-over}
-use Rattle.exact.proofs.Split.{free-each, Part, part-at, Same, best-part, best-copper}
+use Rattle.exact.proofs.Split.{copper-each, Part, part-at, Same, best-part, best-copper}
 
 -- ---- a part
 
 -- a line up to an earlier end, in working slices of the same length
-pub line-to : {G : List ℕ} {n hi : ℕ} {site start site′ start′ : List ℕ} → Line G n site start → hi ≤ n
-    → length site′ ≡ length site → length start′ ≡ length start → Line G hi site′ start′
-line-to l h i j = record {
+pub line-to : {G G′ : List ℕ} {n hi : ℕ} {site start site′ start′ : List ℕ} → Line G n site start → hi ≤ n
+    → length G′ ≡ length G → length site′ ≡ length site → length start′ ≡ length start → Line G′ hi site′ start′
+line-to l h k i j = record {
   short = omega (arith, l .short);
   costs = omega (arith, l .costs);
-  sites = omega (arith, l .sites);
-  starts = omega (arith, l .starts);
-}
-
--- the part of a line
-pub part-line : {G : List ℕ} (lo : ℕ) {hi : ℕ} {site start : List ℕ} → Line G hi site start → Line (part lo hi G) (hi - lo) site start
-part-line {G} lo {hi} l = record {
-  short = omega (arith, l .short);
-  costs = simp (length-take, length-drop) (omega (arith, l .costs));
   sites = omega (arith, l .sites);
   starts = omega (arith, l .starts);
 }
@@ -44,11 +36,15 @@ way-same lo b x =
     ∙ sym (+ℤ-assoc (pos (b + lo)) (negℤ (pos lo)) (negℤ (pos x)))
     ∙ ap (λ (t : ℤ). t -ℤ pos x) (+ℤ-negℤ-cancel (pos b) (pos lo))
 
+-- copper costs nothing
+copper-cost : (ways : List ℤ) (w k : ℕ) → k < w → getD ways k (pos 0) ≡ pos 0 → getD (costsOf ways w) k 0 ≡ 0
+copper-cost ways w k l e = costs-at ways w k l ∙ ap costOf e
+
 -- a part that is written as a row of its own is written as the row asks
-pub part-solved : {base w lo hi : ℕ} (ways : List ℤ) {cost : List ℕ} {m o : List ℤ} → w ≤ 2048 → lo ≤ hi → Part cost w lo hi
-    → Written (base + lo) 0 (hi - lo) (λ b. getD (part lo hi ways) b (pos 0)) (bestSite (part lo hi cost) (hi - lo)) m o
-    → Written base lo hi (λ b. getD ways b (pos 0)) (bestSite cost w) m o
-part-solved {base} {w} {lo} {hi} ways {cost} {m} {o} few order p r = record {
+pub part-solved : {base w lo hi : ℕ} (ways : List ℤ) {m o : List ℤ} → w ≤ 2048 → lo ≤ hi → Part (costsOf ways w) w lo hi
+    → Written (base + lo) 0 (hi - lo) (λ b. getD (part lo hi ways) b (pos 0)) (bestSite (costsOf (part lo hi ways) (hi - lo)) (hi - lo)) m o
+    → Written base lo hi (λ b. getD ways b (pos 0)) (bestSite (costsOf ways w) w) m o
+part-solved {base} {w} {lo} {hi} ways {m} {o} few order p r = record {
   long = r .long;
   dx = λ x i l. at x i l .0;
   dy = λ x i l. at x i l .1;
@@ -68,14 +64,20 @@ part-solved {base} {w} {lo} {hi} ways {cost} {m} {o} few order p r = record {
           sym (along-site b i (λ t. getD (part lo hi ways) t (pos 0))) ∙ part-at lo hi ways b (pos 0) l ∙ along-site (lo + b) k (λ t. getD ways t (pos 0)),
         )
 
+    -- the part's own costs are those of the row
+    own : (j : ℕ) → bestSite (costsOf (part lo hi ways) (hi - lo)) (hi - lo) j ≡ bestSite (part lo hi (costsOf ways w)) (hi - lo) j
+    own j =
+        priced-best (part lo hi ways) (part lo hi (costsOf ways w)) (hi - lo) j (omega (arith, p .on))
+        (λ k l. part-at lo hi (costsOf ways w) k 0 l ∙ costs-at ways w (lo + k) (omega (arith, p .on)) ∙ ap costOf (sym (part-at lo hi ways k (pos 0) l)))
+
     pixel : (j : ℕ) → j < hi - lo
-        → (dxAt o (base + lo + j) ≡ across (bestSite cost w (lo + j)) (lo + j))
-        × (dyAt o (base + lo + j) ≡ along (λ b. getD ways b (pos 0)) (bestSite cost w (lo + j)))
+        → (dxAt o (base + lo + j) ≡ across (bestSite (costsOf ways w) w (lo + j)) (lo + j))
+        × (dyAt o (base + lo + j) ≡ along (λ b. getD ways b (pos 0)) (bestSite (costsOf ways w) w (lo + j)))
     pixel j l =
-        let v = vector j (best-part cost w lo hi few p j l) in
+        let v = rw (← own j) at (vector j (best-part (costsOf ways w) w lo hi few p j l)) in
         (r .dx j (omega arith) l ∙ v .0, r .dy j (omega arith) l ∙ v .1)
 
-    at : (x : ℕ) → lo ≤ x → x < hi → (dxAt o (base + x) ≡ across (bestSite cost w x) x) × (dyAt o (base + x) ≡ along (λ b. getD ways b (pos 0)) (bestSite cost w x))
+    at : (x : ℕ) → lo ≤ x → x < hi → (dxAt o (base + x) ≡ across (bestSite (costsOf ways w) w x) x) × (dyAt o (base + x) ≡ along (λ b. getD ways b (pos 0)) (bestSite (costsOf ways w) w x))
     at x i l =
         let e : lo + (x - lo) ≡ x = omega arith in
         let f : base + lo + (x - lo) ≡ base + x = omega arith in
@@ -84,30 +86,30 @@ part-solved {base} {w} {lo} {hi} ways {cost} {m} {o} few order p r = record {
 -- ---- copper
 
 -- copper that goes to itself goes to its best column
-pub copper-solved : {base w from to : ℕ} (ways : List ℤ) {cost : List ℕ} {m o : List ℤ} → w ≤ 2048 → Free w ways cost → CopperEnd cost from w to
-    → Written base from to (λ b. pos 0) (λ x. x) m o → Written base from to (λ b. getD ways b (pos 0)) (bestSite cost w) m o
-copper-solved {w = w} ways {cost = cost} few free c r = run-same r (λ x i j.
+pub copper-solved : {base w from to : ℕ} (ways : List ℤ) {m o : List ℤ} → w ≤ 2048 → CopperEnd ways from w to
+    → Written base from to (λ b. pos 0) (λ x. x) m o → Written base from to (λ b. getD ways b (pos 0)) (bestSite (costsOf ways w) w) m o
+copper-solved {w = w} ways few c r = run-same r (λ x i j.
     let z = c .copper x i j in
     let l : x < w = omega (arith, c .on) in
-    (best-copper cost w x few l z, ap (λ (t : ℤ). along (λ _. t) x) (sym (free x l z))))
+    (best-copper (costsOf ways w) w x few l (copper-cost ways w x l z), ap (λ (t : ℤ). along (λ _. t) x) (sym z)))
 
 -- a part, and the copper after it
-pub next-solved : {base w lo done x hi e : ℕ} (ways : List ℤ) {cost : List ℕ} {m n o : List ℤ} → w ≤ 2048 → Free w ways cost
-    → lo ≤ done → done < w → (0 < lo → getD cost lo 0 ≡ 0)
-    → CopperRun cost done w x → hi ≡ x + 1 - (x + 1 - w)
-    → Written (base + lo) 0 (hi - lo) (λ b. getD (part lo hi ways) b (pos 0)) (bestSite (part lo hi cost) (hi - lo)) m n
-    → CopperEnd cost x w e → Written base x e (λ b. pos 0) (λ z. z) n o → Next base w lo done ways cost m e o
-next-solved {base} {w} {lo} {done} {x} {hi} {e} ways {cost} few free behind more left run ends part c copper = record {
+pub next-solved : {base w lo done x hi e : ℕ} (ways : List ℤ) {m n o : List ℤ} → w ≤ 2048
+    → lo ≤ done → done < w → (0 < lo → getD ways lo (pos 0) ≡ pos 0)
+    → CopperRun ways done w x → hi ≡ x + 1 - (x + 1 - w)
+    → Written (base + lo) 0 (hi - lo) (λ b. getD (part lo hi ways) b (pos 0)) (bestSite (costsOf (part lo hi ways) (hi - lo)) (hi - lo)) m n
+    → CopperEnd ways x w e → Written base x e (λ b. pos 0) (λ z. z) n o → Next base w lo done ways m e o
+next-solved {base} {w} {lo} {done} {x} {hi} {e} ways few behind more left run ends part c copper = record {
   more = omega (arith, run .after, reached);
   on = c .on;
   copper = λ l. c .copper (e - 1) (omega (arith, reached)) (omega (arith, reached));
   written = run-over (omega (arith, run .after)) (omega (arith, run .on)) reached
-      (part-solved ways few (omega (arith, run .after)) (record { on = omega (arith, run .on); left = left; right = right }) part)
-      (copper-solved ways few free c copper);
+      (part-solved ways few (omega (arith, run .after)) (record { on = omega (arith, run .on); left = λ l. copper-cost ways w lo (omega arith) (left l); right = right }) part)
+      (copper-solved ways few c copper);
 }
   where
-    right : hi < w → getD cost (hi - 1) 0 ≡ 0
-    right l = let s : hi - 1 ≡ x = omega arith in rw s (free-each cost x 8 (run .copper (omega arith)) x (omega arith) (omega arith))
+    right : hi < w → getD (costsOf ways w) (hi - 1) 0 ≡ 0
+    right l = let s : hi - 1 ≡ x = omega arith in rw s (copper-cost ways w x (omega arith) (copper-each ways x 8 (run .copper (omega arith)) x (omega arith) (omega arith)))
 
     reached : hi ≤ e
     reached = elim (decLt x w) [ yes l ↦ omega (arith, c .some (run .room l) (run .copper l)) | no l ↦ omega (arith, run .on, c .after) ]
@@ -115,18 +117,18 @@ next-solved {base} {w} {lo} {done} {x} {hi} {e} ways {cost} few free behind more
 -- ---- all parts
 
 -- the first `done` pixels are written, and the next part starts at lo, with copper
-pub record Parted (base w : ℕ) (ways : List ℤ) (cost : List ℕ) (m : List ℤ) (lo done : ℕ) (o : List ℤ) : Type 0 where
+pub record Parted (base w : ℕ) (ways : List ℤ) (m : List ℤ) (lo done : ℕ) (o : List ℤ) : Type 0 where
   pub on : done ≤ w
   pub behind : lo ≤ done
-  pub copper : done < w → 0 < lo → getD cost lo 0 ≡ 0
-  pub written : Written base 0 done (λ b. getD ways b (pos 0)) (bestSite cost w) m o
+  pub copper : done < w → 0 < lo → getD ways lo (pos 0) ≡ pos 0
+  pub written : Written base 0 done (λ b. getD ways b (pos 0)) (bestSite (costsOf ways w) w) m o
 
-module _ {base w : ℕ} {ways : List ℤ} {cost : List ℕ} {m : List ℤ} where
-  pub parted-none : Parted base w ways cost m 0 0 m
+module _ {base w : ℕ} {ways m : List ℤ} where
+  pub parted-none : Parted base w ways m 0 0 m
   parted-none = record { on = omega arith; behind = omega arith; copper = λ l i. absurd (omega arith); written = run-none }
 
-  pub parted-more : {lo done e : ℕ} {o q : List ℤ} → Parted base w ways cost m lo done o → Next base w lo done ways cost o e q
-      → Parted base w ways cost m (e - 1) e q
+  pub parted-more : {lo done e : ℕ} {o q : List ℤ} → Parted base w ways m lo done o → Next base w lo done ways o e q
+      → Parted base w ways m (e - 1) e q
   parted-more p n = record {
     on = n .on;
     behind = omega arith;
@@ -134,6 +136,6 @@ module _ {base w : ℕ} {ways : List ℤ} {cost : List ℕ} {m : List ℤ} where
     written = run-over (omega arith) (p .behind) (omega (arith, n .more)) (p .written) (n .written);
   }
 
-  pub parted-all : {lo done : ℕ} {o : List ℤ} → Parted base w ways cost m lo done o → w ≤ done
-      → Written base 0 w (λ b. getD ways b (pos 0)) (bestSite cost w) m o
+  pub parted-all : {lo done : ℕ} {o : List ℤ} → Parted base w ways m lo done o → w ≤ done
+      → Written base 0 w (λ b. getD ways b (pos 0)) (bestSite (costsOf ways w) w) m o
   parted-all {lo} {done} p h = let e : done ≡ w = omega (arith, p .on) in rw e at (p .written)

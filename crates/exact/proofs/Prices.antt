@@ -1,4 +1,4 @@
--- The ways and costs of a row's columns: how they start, one column more; and the best column, which goes by the row's costs alone.
+-- The working rows of ways and costs: how they start, one column more; and the best column, which goes by the row's costs alone.
 -- Assumes nothing.
 use mathlib.Core.Path.{_≡_, refl, sym, ap, _∙_}
 use mathlib.Core.Logic.{⊎-elim}
@@ -12,47 +12,31 @@ use lib.Seq.{getD-set-same, getD-set-other}
 use Rattle.raster.specs.PixelsLaws.{tabulate-at}
 use Rattle.envelope.specs.Best.{better, bestSite}
 use Rattle.envelope.specs.BestLaws.{best-found}
-use Rattle.exact.specs.Ways.{costOf, along, wayAt, rowCosts, Priced, Written, Free}
-use Rattle.exact.proofs.Numbers.{cost-zero}
+use Rattle.exact.specs.Ways.{costOf, along, wayAt, rowCosts, costsOf, Written}
 use Rattle.exact.proofs.Runs.{run-same}
 
--- the ways and costs of the first k columns stand in slices of the same length
-pub record Pricing (m : List ℤ) (base w : ℕ) (ways₀ : List ℤ) (cost₀ : List ℕ) (k : ℕ) (ways : List ℤ) (cost : List ℕ) : Type 0 where
-  pub on : k ≤ w
-  pub ways-long : length ways ≡ length ways₀
-  pub cost-long : length cost ≡ length cost₀
-  pub priced : Priced m base k ways cost
+-- the first k numbers of a slice are filled with f, and the slice is as long as before
+pub record Filled {A : Type 0} (d : A) (f : ℕ → A) (n : ℕ) (before : List A) (k : ℕ) (after : List A) : Type 0 where
+  pub on : k ≤ n
+  pub long : length after ≡ length before
+  pub at : (j : ℕ) → j < k → getD after j d ≡ f j
 
-module _ {m : List ℤ} {base w : ℕ} {ways₀ : List ℤ} {cost₀ : List ℕ} where
-  pub pricing-none : Pricing m base w ways₀ cost₀ 0 ways₀ cost₀
-  pricing-none = record {
+module _ {A : Type 0} {d : A} {f : ℕ → A} {n : ℕ} {before : List A} where
+  pub filled-none : Filled d f n before 0 before
+  filled-none = record { on = omega arith; long = refl; at = λ j l. absurd (omega arith) }
+
+  pub filled-more : {k : ℕ} {s : List A} (v : A) → Filled d f n before k s → k < n → k < length s → v ≡ f k → Filled d f n before (k + 1) (set s k v)
+  filled-more {k} {s} v p h i e = record {
     on = omega arith;
-    ways-long = refl;
-    cost-long = refl;
-    priced = record { ways-at = λ j l. absurd (omega arith); costs-at = λ j l. absurd (omega arith) };
+    long = length-set s k v ∙ p .long;
+    at = λ j l. elim (ℕ-discrete j k) [
+      | yes q ↦ rw q (getD-set-same s k v d i ∙ e)
+      | no q ↦ getD-set-other s k j v d q ∙ p .at j (omega arith)
+    ];
   }
 
-  pub pricing-more : {k : ℕ} {ways : List ℤ} {cost : List ℕ} (z : ℤ) {g : ℕ} → Pricing m base w ways₀ cost₀ k ways cost
-      → k < w → k < length ways → k < length cost
-      → z ≡ wayAt m base k → g ≡ costOf z → Pricing m base w ways₀ cost₀ (k + 1) (set ways k z) (set cost k g)
-  pricing-more {k} {ways} {cost} z {g} p h i j e f = record {
-    on = omega arith;
-    ways-long = length-set ways k z ∙ p .ways-long;
-    cost-long = length-set cost k g ∙ p .cost-long;
-    priced = record {
-      ways-at = λ a l. elim (ℕ-discrete a k) [
-        | yes q ↦ rw q (getD-set-same ways k z (pos 0) i ∙ e)
-        | no q ↦ getD-set-other ways k a z (pos 0) q ∙ p .priced .ways-at a (omega arith)
-      ];
-      costs-at = λ a l. elim (ℕ-discrete a k) [
-        | yes q ↦ rw q (getD-set-same cost k g 0 j ∙ f ∙ ap costOf e)
-        | no q ↦ getD-set-other cost k a g 0 q ∙ p .priced .costs-at a (omega arith)
-      ];
-    };
-  }
-
-  pub pricing-all : {k : ℕ} {ways : List ℤ} {cost : List ℕ} → Pricing m base w ways₀ cost₀ k ways cost → w ≤ k → Priced m base w ways cost
-  pricing-all {k} {ways} {cost} p h = let e : k ≡ w = omega (arith, p .on) in rw (← e) (p .priced)
+  pub filled-all : {k : ℕ} {s : List A} → Filled d f n before k s → n ≤ k → (j : ℕ) → j < n → getD s j d ≡ f j
+  filled-all p h j l = p .at j (omega (arith, p .on))
 
 -- ---- the best column goes by the costs of the row alone
 
@@ -72,17 +56,22 @@ pub row-cost : (m : List ℤ) (base w j : ℕ) → j < w → getD (rowCosts m ba
 unfolding rowCosts
 row-cost m base w j l = tabulate-at w _ j 0 l
 
--- a row that is written by the costs and ways in the working rows goes to the best columns
-pub row-solved : {m : List ℤ} {base w : ℕ} {ways : List ℤ} {cost : List ℕ} {o : List ℤ} → w ≤ 2048 → Priced m base w ways cost
-    → Written base 0 w (λ b. getD ways b (pos 0)) (bestSite cost w) m o → Written base 0 w (wayAt m base) (bestSite (rowCosts m base w) w) m o
-row-solved {m} {base} {w} {ways} {cost} few p r = run-same r (λ x h l. (best x, way x))
+pub costs-at : (ways : List ℤ) (w j : ℕ) → j < w → getD (costsOf ways w) j 0 ≡ costOf (getD ways j (pos 0))
+unfolding costsOf
+costs-at ways w j l = tabulate-at w _ j 0 l
+
+-- costs that stand in a working row are as good as the list of them
+pub priced-best : (ways : List ℤ) (cost : List ℕ) (w x : ℕ) → w ≤ 2048 → ((k : ℕ) → k < w → getD cost k 0 ≡ costOf (getD ways k (pos 0)))
+    → bestSite (costsOf ways w) w x ≡ bestSite cost w x
+priced-best ways cost w x few p = best-same (costsOf ways w) cost x w (omega arith) (λ j k. costs-at ways w j k ∙ sym (p j k))
+
+-- a row that is written by the ways in the working row goes to the best columns
+pub row-solved : (ways : List ℤ) {m : List ℤ} {base w : ℕ} {o : List ℤ} → w ≤ 2048 → ((k : ℕ) → k < w → getD ways k (pos 0) ≡ wayAt m base k)
+    → Written base 0 w (λ b. getD ways b (pos 0)) (bestSite (costsOf ways w) w) m o → Written base 0 w (wayAt m base) (bestSite (rowCosts m base w) w) m o
+row-solved ways {m} {base} {w} few p r = run-same r (λ x h l. (best x, way x))
   where
-    best : (x : ℕ) → bestSite (rowCosts m base w) w x ≡ bestSite cost w x
-    best x = best-same (rowCosts m base w) cost x w (omega arith) (λ j k. row-cost m base w j k ∙ sym (p .costs-at j k))
+    best : (x : ℕ) → bestSite (rowCosts m base w) w x ≡ bestSite (costsOf ways w) w x
+    best x = best-same (rowCosts m base w) (costsOf ways w) x w (omega arith) (λ j k. row-cost m base w j k ∙ ap costOf (sym (p j k)) ∙ sym (costs-at ways w j k))
 
-    way : (x : ℕ) → along (λ k. getD ways k (pos 0)) (bestSite cost w x) ≡ along (wayAt m base) (bestSite cost w x)
-    way x = ⊎-elim (λ n. rw (n .0)) (λ s. rw (p .ways-at _ (s .below))) (best-found cost w x (omega arith))
-
--- a column that costs nothing has the way 0
-pub priced-free : {m : List ℤ} {base w : ℕ} {ways : List ℤ} {cost : List ℕ} → Priced m base w ways cost → Free w ways cost
-priced-free p k l e = p .ways-at k l ∙ cost-zero _ (sym (p .costs-at k l) ∙ e)
+    way : (x : ℕ) → along (λ k. getD ways k (pos 0)) (bestSite (costsOf ways w) w x) ≡ along (wayAt m base) (bestSite (costsOf ways w) w x)
+    way x = ⊎-elim (λ n. rw (n .0)) (λ s. rw (p _ (s .below))) (best-found (costsOf ways w) w x (omega arith))

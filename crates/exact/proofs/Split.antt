@@ -1,15 +1,15 @@
 -- Copper splits a row: on its right no earlier column is better than it, on its left no later one, and it goes to itself. So a part of the row between
 -- two such ends is worked out by itself.
 -- Assumes nothing.
-use mathlib.Core.Path.{_≡_, refl, sym, _∙_}
-use mathlib.Core.Bool.{Bool, true, _&&_}
+use mathlib.Core.Path.{_≡_, refl, sym, ap, _∙_}
+use mathlib.Core.Bool.{Bool, true, _&&_, false≢true}
 use mathlib.Core.Logic.{_⊎_, inl, inr}
 use mathlib.Core.List.{List}
 use Prim.Native.Nat.{ℕ, zero, suc, _+_, _-_, _<_, _≤_}
 use native.Mathlib.Decide.{decLt, ℕ-discrete}
 use native.Mathlib.Numerals.{add-one}
 use native.Mathlib.Omega.{arith}
-use lib.Dec.{eqb}
+use lib.IntN.{ℤ, pos, negsuc}
 use lib.ListN.{getD}
 use lib.Seq.{getD-take, getD-drop}
 use Rattle.raster.specs.Distance.{gap}
@@ -18,25 +18,29 @@ use Rattle.raster.specs.Tests.{and-left, and-right}
 use Rattle.raster.specs.DistanceLaws.{gap-self, square-le}
 use Rattle.envelope.specs.Best.{priceOf, price, Site, bestSite}
 use Rattle.envelope.specs.BestLaws.{Found, best-found}
-use Rattle.exact.specs.Ways.{part, freeFrom}
+use Rattle.exact.specs.Ways.{isZero, part, copperFrom}
 
--- ---- columns that cost nothing
+-- ---- copper columns
 
-pub free-none : (cost : List ℕ) (x : ℕ) → true ≡ freeFrom cost x 0
-unfolding freeFrom
-free-none cost x = refl
+zero-way : (v : ℤ) → isZero v ≡ true → v ≡ pos 0
+zero-way (pos n) e = ap pos (eqb-true n 0 e)
+zero-way (negsuc n) e = absurd (false≢true e)
 
-pub free-more : (cost : List ℕ) (x i : ℕ) {a b : Bool} → b ≡ (a && eqb (getD cost (x + i) 0) 0) → a ≡ freeFrom cost x i → b ≡ freeFrom cost x (i + 1)
-unfolding freeFrom
-free-more cost x i e f = rw (add-one i) (e ∙ rw f)
+pub copper-none : (ways : List ℤ) (x : ℕ) → true ≡ copperFrom ways x 0
+unfolding copperFrom
+copper-none ways x = refl
 
--- each of them costs nothing
-pub free-each : (cost : List ℕ) (x n : ℕ) → freeFrom cost x n ≡ true → (k : ℕ) → x ≤ k → k < x + n → getD cost k 0 ≡ 0
-unfolding freeFrom
-free-each cost x zero e k i l = absurd (omega arith)
-free-each cost x (suc n) e k i l = elim (ℕ-discrete k (x + n)) [
-  | yes q ↦ rw q (eqb-true _ _ (and-right (freeFrom cost x n) _ e))
-  | no q ↦ free-each cost x n (and-left (freeFrom cost x n) _ e) k i (omega arith)
+pub copper-more : (ways : List ℤ) (x i : ℕ) {a b : Bool} → b ≡ (a && isZero (getD ways (x + i) (pos 0))) → a ≡ copperFrom ways x i → b ≡ copperFrom ways x (i + 1)
+unfolding copperFrom
+copper-more ways x i e f = rw (add-one i) (e ∙ rw f)
+
+-- the way of each is 0
+pub copper-each : (ways : List ℤ) (x n : ℕ) → copperFrom ways x n ≡ true → (k : ℕ) → x ≤ k → k < x + n → getD ways k (pos 0) ≡ pos 0
+unfolding copperFrom
+copper-each ways x zero e k i l = absurd (omega arith)
+copper-each ways x (suc n) e k i l = elim (ℕ-discrete k (x + n)) [
+  | yes q ↦ rw q (zero-way _ (and-right (copperFrom ways x n) _ e))
+  | no q ↦ copper-each ways x n (and-left (copperFrom ways x n) _ e) k i (omega arith)
 ]
 
 -- ---- the best site

@@ -86,10 +86,9 @@ wayAt m base k = getD m (base + k) (pos 0)
 unfoldable pub rowCosts : List ℤ → (base w : ℕ) → List ℕ
 rowCosts m base w = tabulate w (λ k. costOf (wayAt m base k))
 
--- both stand in the working rows
-pub record Priced (m : List ℤ) (base w : ℕ) (ways : List ℤ) (cost : List ℕ) : Type 0 where
-  pub ways-at : (k : ℕ) → k < w → getD ways k (pos 0) ≡ wayAt m base k
-  pub costs-at : (k : ℕ) → k < w → getD cost k 0 ≡ costOf (wayAt m base k)
+-- the costs of the first w columns, whose ways are given
+unfoldable pub costsOf : List ℤ → (w : ℕ) → List ℕ
+costsOf ways w = tabulate w (λ k. costOf (getD ways k (pos 0)))
 
 -- the vector to the column b (65535: none), whose way is v b
 abbrev pub across : (b x : ℕ) → ℤ
@@ -112,35 +111,31 @@ pub record Written (base from to : ℕ) (v : ℕ → ℤ) (best : ℕ → ℕ) (
 abbrev pub part : {A : Type 0} (lo hi : ℕ) → List A → List A
 part lo hi s = take (hi - lo) (drop lo s)
 
--- a column that costs nothing is copper: its way is 0
-abbrev pub Free : (w : ℕ) → List ℤ → List ℕ → Type 0
-Free w ways cost = (k : ℕ) → k < w → getD cost k 0 ≡ 0 → getD ways k (pos 0) ≡ pos 0
-
--- the n columns from x on cost nothing
-unfoldable pub freeFrom : List ℕ → (x n : ℕ) → Bool
-freeFrom cost x zero = true
-freeFrom cost x (suc n) = freeFrom cost x n && eqb (getD cost (x + n) 0) 0
+-- the n columns from x on are copper: their way is 0
+unfoldable pub copperFrom : List ℤ → (x n : ℕ) → Bool
+copperFrom ways x zero = true
+copperFrom ways x (suc n) = copperFrom ways x n && isZero (getD ways (x + n) (pos 0))
 
 -- x is the first of eight copper columns, at or after `from`, or the end of the row
-pub record CopperRun (cost : List ℕ) (from w x : ℕ) : Type 0 where
+pub record CopperRun (ways : List ℤ) (from w x : ℕ) : Type 0 where
   pub after : from ≤ x
   pub on : x ≤ w
   pub room : x < w → x + 8 ≤ w
-  pub copper : x < w → freeFrom cost x 8 ≡ true
+  pub copper : x < w → copperFrom ways x 8 ≡ true
 
 -- all columns from `from` to e − 1 are copper, and there are some where eight of them are
-pub record CopperEnd (cost : List ℕ) (from w e : ℕ) : Type 0 where
+pub record CopperEnd (ways : List ℤ) (from w e : ℕ) : Type 0 where
   pub after : from ≤ e
   pub on : e ≤ w
-  pub copper : (k : ℕ) → from ≤ k → k < e → getD cost k 0 ≡ 0
-  pub some : from + 8 ≤ w → freeFrom cost from 8 ≡ true → from < e
+  pub copper : (k : ℕ) → from ≤ k → k < e → getD ways k (pos 0) ≡ pos 0
+  pub some : from + 8 ≤ w → copperFrom ways from 8 ≡ true → from < e
 
 -- the pixels from lo to e − 1 are written, more than the first `done`, and the last is copper where the row goes on
-pub record Next (base w lo done : ℕ) (ways : List ℤ) (cost : List ℕ) (before : List ℤ) (e : ℕ) (after : List ℤ) : Type 0 where
+pub record Next (base w lo done : ℕ) (ways : List ℤ) (before : List ℤ) (e : ℕ) (after : List ℤ) : Type 0 where
   pub more : done < e
   pub on : e ≤ w
-  pub copper : e < w → getD cost (e - 1) 0 ≡ 0
-  pub written : Written base lo e (λ b. getD ways b (pos 0)) (bestSite cost w) before after
+  pub copper : e < w → getD ways (e - 1) (pos 0) ≡ pos 0
+  pub written : Written base lo e (λ b. getD ways b (pos 0)) (bestSite (costsOf ways w) w) before after
 
 -- ---- all rows
 

@@ -15,7 +15,7 @@ ghost use Rattle.raster.specs.Vector.{Short};
 ghost use Rattle.envelope.specs.Best.{bestSite, Line};
 ghost use Rattle.envelope.specs.Stack.{holder};
 ghost use Rattle.exact.specs.Nearest.{exactMap, cleared};
-ghost use Rattle.exact.specs.Ways.{farther, up, shorter, costOf, Room, isZero, Spread, Held, shortened, wayAt, rowCosts, Priced, Written, part, Free, freeFrom, CopperRun, CopperEnd, Next, Solved};
+ghost use Rattle.exact.specs.Ways.{farther, up, shorter, costOf, Room, isZero, Spread, Held, shortened, wayAt, rowCosts, costsOf, Written, copperFrom, CopperRun, CopperEnd, Next, Solved};
 
 // ---- the ways within the columns
 
@@ -76,13 +76,12 @@ fn shorter_of(u: i16, d: i16) -> i16
         }
         return d;
     }
-    if d < 0 {
-        return 0 - u;
+    if d >= 0 {
+        if d < u {
+            return d;
+        }
     }
-    if u <= d {
-        return 0 - u;
-    }
-    d
+    0 - u
 }
 
 // The row that starts at `base`, upwards: `near` has the ways downwards of the row below, then those of this row, and `ways` goes from the ways upwards
@@ -144,15 +143,23 @@ fn way_at(ways: &[i16], i: usize) -> i32
     ways[i] as i32
 }
 
-// The ways and costs of the row that starts at `base`.
-fn price_row(map: &[i16], base: usize, w: usize, ways: &mut [i16], cost: &mut [u32])
-    requires { ⌜ (base + w ≤ length (now map)) × ((w ≤ length (now ways)) × (w ≤ length (now cost))) ⌝ }
-    ensures { λ _. ⌜ Priced (now (map .entry)) base w (now (ways .exit)) (now (cost .exit)) ⌝ }
+// The ways of the row that starts at `base`.
+fn copy_row(map: &[i16], base: usize, w: usize, ways: &mut [i16])
+    requires { ⌜ (base + w ≤ length (now map)) × (w ≤ length (now ways)) ⌝ }
+    ensures { λ _. ⌜ ((k : ℕ) → k < w → getD (now (ways .exit)) k (pos 0) ≡ wayAt (now (map .entry)) base k) ⌝ }
 {
     for k in 0..w {
-        let v = way_at(map, base + k);
-        ways[k] = v as i16;
-        cost[k] = cost_of(v);
+        ways[k] = map[base + k];
+    }
+}
+
+// The costs of the first n columns.
+fn price_row(ways: &[i16], n: usize, cost: &mut [u32])
+    requires { ⌜ (n ≤ length (now ways)) × (n ≤ length (now cost)) ⌝ }
+    ensures { λ _. ⌜ ((k : ℕ) → k < n → getD (now (cost .exit)) k 0 ≡ costOf (getD (now (ways .entry)) k (pos 0))) ⌝ }
+{
+    for k in 0..n {
+        cost[k] = cost_of(way_at(ways, k));
     }
 }
 
@@ -215,36 +222,36 @@ fn write_row(
     clear_run(map, base, to);
 }
 
-// Whether a stretch that cost nothing so far still does with the cost g.
-fn still_free(free: bool, g: u32) -> bool
-    ensures { λ r. ⌜ r ≡ free && eqb g 0 ⌝ }
+// Whether a stretch that was copper so far still is with the way v.
+fn still_copper(copper: bool, v: i16) -> bool
+    ensures { λ r. ⌜ r ≡ copper && isZero v ⌝ }
 {
-    if g != 0 {
+    if v != 0 {
         return false;
     }
-    free
+    copper
 }
 
 // Whether the eight columns from x on are copper. No jump out of the loop, so that they are looked at all at once.
-fn is_copper(cost: &[u32], x: usize) -> bool
-    requires { ⌜ x + 8 ≤ length (now cost) ⌝ }
-    ensures { λ r. ⌜ r ≡ freeFrom (now (cost .entry)) x 8 ⌝ }
+fn is_copper(ways: &[i16], x: usize) -> bool
+    requires { ⌜ x + 8 ≤ length (now ways) ⌝ }
+    ensures { λ r. ⌜ r ≡ copperFrom (now (ways .entry)) x 8 ⌝ }
 {
-    let mut free = true;
+    let mut copper = true;
     for i in 0..8 {
-        free = still_free(free, cost[x + i]);
+        copper = still_copper(copper, ways[x + i]);
     }
-    free
+    copper
 }
 
 // Where a run of at least eight copper pixels starts or goes on, which splits the row. Looked for at every 32nd place only; w if none is found.
-fn copper_run(cost: &[u32], from: usize, w: usize) -> usize
-    requires { ⌜ (from ≤ w) × ((w ≤ 2048) × (w ≤ length (now cost))) ⌝ }
-    ensures { λ r. ⌜ CopperRun (now (cost .entry)) from w r ⌝ }
+fn copper_run(ways: &[i16], from: usize, w: usize) -> usize
+    requires { ⌜ (from ≤ w) × ((w ≤ 2048) × (w ≤ length (now ways))) ⌝ }
+    ensures { λ r. ⌜ CopperRun (now (ways .entry)) from w r ⌝ }
 {
     let mut x = from;
     while x + 8 <= w {
-        if is_copper(cost, x) {
+        if is_copper(ways, x) {
             return x;
         }
         x += 32;
@@ -253,13 +260,13 @@ fn copper_run(cost: &[u32], from: usize, w: usize) -> usize
 }
 
 // How far the run goes on from `from`, in steps of eight.
-fn copper_end(cost: &[u32], from: usize, w: usize) -> usize
-    requires { ⌜ (from ≤ w) × ((w ≤ 2048) × (w ≤ length (now cost))) ⌝ }
-    ensures { λ r. ⌜ CopperEnd (now (cost .entry)) from w r ⌝ }
+fn copper_end(ways: &[i16], from: usize, w: usize) -> usize
+    requires { ⌜ (from ≤ w) × ((w ≤ 2048) × (w ≤ length (now ways))) ⌝ }
+    ensures { λ r. ⌜ CopperEnd (now (ways .entry)) from w r ⌝ }
 {
     let mut x = from;
     while x + 8 <= w {
-        if is_copper(cost, x) {
+        if is_copper(ways, x) {
             x += 8;
         } else {
             return x;
@@ -280,23 +287,23 @@ fn write_copper(map: &mut [i16], base: usize, from: usize, to: usize)
     }
 }
 
-// The pixels from `lo` to `hi` − 1 of the row, as a row of their own: each goes to the best of their columns.
+// The n pixels from `base` on, as a row of their own: each goes to the best of their columns.
 fn solve_part(
     map: &mut [i16],
     base: usize,
-    lo: usize,
-    hi: usize,
+    n: usize,
     ways: &[i16],
-    cost: &[u32],
+    cost: &mut [u32],
     site: &mut [u16],
     start: &mut [u16],
 )
-    requires { ⌜ (2 * (base + hi) ≤ length (now map)) × ((lo ≤ hi) × (hi ≤ length (now ways))) ⌝ }
-    requires { ⌜ Line (now cost) hi (now site) (now start) ⌝ }
-    ensures { λ _. ⌜ Written (base + lo) 0 (hi - lo) (λ b. getD (part lo hi (now (ways .entry))) b (pos 0)) (bestSite (part lo hi (now (cost .entry))) (hi - lo)) (now (map .entry)) (now (map .exit)) ⌝ }
+    requires { ⌜ (2 * (base + n) ≤ length (now map)) × (n ≤ length (now ways)) ⌝ }
+    requires { ⌜ Line (now cost) n (now site) (now start) ⌝ }
+    ensures { λ _. ⌜ Written base 0 n (λ b. getD (now (ways .entry)) b (pos 0)) (bestSite (costsOf (now (ways .entry)) n) n) (now (map .entry)) (now (map .exit)) ⌝ }
 {
-    let count = envelope::build(&cost[lo..hi], hi - lo, site, start);
-    write_row(map, base + lo, hi - lo, &ways[lo..hi], site, start, count);
+    price_row(ways, n, cost);
+    let count = envelope::build(cost, n, site, start);
+    write_row(map, base, n, ways, site, start, count);
 }
 
 // Where the part that ends with the copper at x ends: after x, or with the row.
@@ -318,18 +325,19 @@ fn solve_next(
     lo: usize,
     done: usize,
     ways: &[i16],
-    cost: &[u32],
+    cost: &mut [u32],
     site: &mut [u16],
     start: &mut [u16],
 ) -> usize
     requires { ⌜ (2 * (base + w) ≤ length (now map)) × (w ≤ length (now ways)) ⌝ }
-    requires { ⌜ Line (now cost) w (now site) (now start) × Free w (now ways) (now cost) ⌝ }
-    requires { ⌜ (lo ≤ done) × ((done < w) × (0 < lo → getD (now cost) lo 0 ≡ 0)) ⌝ }
-    ensures { λ r. ⌜ Next base w lo done (now (ways .entry)) (now (cost .entry)) (now (map .entry)) r (now (map .exit)) ⌝ }
+    requires { ⌜ Line (now cost) w (now site) (now start) ⌝ }
+    requires { ⌜ (lo ≤ done) × ((done < w) × (0 < lo → getD (now ways) lo (pos 0) ≡ pos 0)) ⌝ }
+    ensures { λ r. ⌜ Next base w lo done (now (ways .entry)) (now (map .entry)) r (now (map .exit)) ⌝ }
 {
-    let x = copper_run(cost, done, w);
-    solve_part(map, base, lo, part_end(x, w), ways, cost, site, start);
-    let e = copper_end(cost, x, w);
+    let x = copper_run(ways, done, w);
+    let hi = part_end(x, w);
+    solve_part(map, base + lo, hi - lo, &ways[lo..hi], cost, site, start);
+    let e = copper_end(ways, x, w);
     write_copper(map, base, x, e);
     e
 }
@@ -341,13 +349,13 @@ fn solve_parts(
     base: usize,
     w: usize,
     ways: &[i16],
-    cost: &[u32],
+    cost: &mut [u32],
     site: &mut [u16],
     start: &mut [u16],
 )
     requires { ⌜ (2 * (base + w) ≤ length (now map)) × (w ≤ length (now ways)) ⌝ }
-    requires { ⌜ Line (now cost) w (now site) (now start) × Free w (now ways) (now cost) ⌝ }
-    ensures { λ _. ⌜ Written base 0 w (λ b. getD (now (ways .entry)) b (pos 0)) (bestSite (now (cost .entry)) w) (now (map .entry)) (now (map .exit)) ⌝ }
+    requires { ⌜ Line (now cost) w (now site) (now start) ⌝ }
+    ensures { λ _. ⌜ Written base 0 w (λ b. getD (now (ways .entry)) b (pos 0)) (bestSite (costsOf (now (ways .entry)) w) w) (now (map .entry)) (now (map .exit)) ⌝ }
 {
     let mut lo: usize = 0;
     let mut done: usize = 0;
@@ -371,7 +379,7 @@ fn solve_row(
     requires { ⌜ (w ≤ length (now ways)) × ((w ≤ length (now cost)) × ((w ≤ length (now site)) × (w ≤ length (now start)))) ⌝ }
     ensures { λ _. ⌜ Written base 0 w (wayAt (now (map .entry)) base) (bestSite (rowCosts (now (map .entry)) base w) w) (now (map .entry)) (now (map .exit)) ⌝ }
 {
-    price_row(map, base, w, ways, cost);
+    copy_row(map, base, w, ways);
     solve_parts(map, base, w, ways, cost, site, start);
 }
 

@@ -16,10 +16,13 @@ pub fn exact(sheet: &[u8], map: &mut [i16], scratch: &mut [i16], w: usize, h: us
     let mut costs = [0; SIDE];
     let mut stack = [Entry::default(); SIDE];
     work(sheet, map, scratch, w, h, |row, ways| {
-        for (cost, &way) in costs.iter_mut().zip(ways) {
-            *cost = cost_of(way);
-        }
-        solve(row, ways, &mut stack, |part, stack| envelope(costs[part].iter().copied(), stack));
+        solve(row, ways, &mut stack, |part, stack| {
+            let costs = &mut costs[..part.len()];
+            for (cost, &way) in costs.iter_mut().zip(&ways[part]) {
+                *cost = cost_of(way);
+            }
+            envelope(costs.iter().copied(), stack)
+        });
     });
 }
 
@@ -51,7 +54,7 @@ fn work(sheet: &[u8], map: &mut [i16], scratch: &mut [i16], w: usize, h: usize, 
 
 /// Writes a row's vectors; `envelope` stacks the best columns of a part of it. The copper pixels at the ends of a run split the row: neither
 /// side's best columns lie on the other.
-fn solve(row: &mut [Pixel], ways: &[i16], stack: &mut [Entry], envelope: impl Fn(Range<usize>, &mut [Entry]) -> usize) {
+fn solve(row: &mut [Pixel], ways: &[i16], stack: &mut [Entry], mut envelope: impl FnMut(Range<usize>, &mut [Entry]) -> usize) {
     let w = row.len();
     let (mut from, mut done) = (0, 0);
     while done < w {

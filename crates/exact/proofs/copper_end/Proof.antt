@@ -5,16 +5,17 @@ use Prim.Native.Nat.{ℕ, _-_, _≤_, _<_}
 use native.Mathlib.Decide.{decLt, ℕ-discrete}
 use native.Mathlib.Omega.{arith}
 use mathlib.Core.Bool.{false≢true}
+use lib.IntN.{pos}
 use lib.ListN.{getD}
-use Rattle.exact.proofs.Split.{free-each}
+use Rattle.exact.proofs.Split.{copper-each}
 use Rattle.exact.proofs.copper_end.Statement.{statement}
 use Rattle.exact.proofs.copper_end.Tie as tie
 
 abbrev Inv-loop : tie.InvT-loop
-Inv-loop cost from w x₀ x = (from ≤ x) × ((x ≤ w) × ((k : ℕ) → from ≤ k → k < x → getD cost k 0 ≡ 0))
+Inv-loop ways from w x₀ x = (from ≤ x) × ((x ≤ w) × ((k : ℕ) → from ≤ k → k < x → getD ways k (pos 0) ≡ pos 0))
 
 abbrev μ-loop : tie.MeasureT-loop
-μ-loop cost from w x₀ x = w - x
+μ-loop ways from w x₀ x = w - x
 
 loop-holds : tie.Need-loop-holds Inv-loop μ-loop
 loop-holds c = (omega arith, (omega arith, λ k i l. absurd (omega arith)))
@@ -22,19 +23,19 @@ loop-holds c = (omega arith, (omega arith, λ k i l. absurd (omega arith)))
 loop-again : tie.Need-loop-again Inv-loop μ-loop
 loop-again c =
     let l = c .before .before .before .loop in
-    let s = c .before .before .before .before .before in
+    let s = c .before .before .before .before in
     let e = sym (c .before .is-copper .ensures) ∙ c .if1 .taken in (
       omega arith,
       (
         omega arith,
-        λ k i j. elim (decLt k (l .x)) [ yes b ↦ l .inv .1 .1 k i b | no b ↦ free-each (s .args .cost .now) (l .x) 8 e k (omega arith) j ],
+        λ k i j. elim (decLt k (l .x)) [ yes b ↦ l .inv .1 .1 k i b | no b ↦ copper-each (s .args .ways .now) (l .x) 8 e k (omega arith) j ],
       ),
     )
 
 returns : tie.Need-returns Inv-loop μ-loop
 returns c =
     let i = c .before .before .before .loop .inv in
-    let s = c .before .before .before .before .before in
+    let s = c .before .before .before .before in
     record {
       after = i .0;
       on = i .1 .0;

@@ -7,10 +7,10 @@ use Rattle.exact.proofs.copper_run.Statement.{statement}
 use Rattle.exact.proofs.copper_run.Tie as tie
 
 abbrev Inv-loop : tie.InvT-loop
-Inv-loop cost from w x₀ x = (from ≤ x) × (x ≤ 4096)
+Inv-loop ways from w x₀ x = (from ≤ x) × (x ≤ 4096)
 
 abbrev μ-loop : tie.MeasureT-loop
-μ-loop cost from w x₀ x = w - x
+μ-loop ways from w x₀ x = w - x
 
 returns : tie.Need-returns Inv-loop μ-loop
 returns c = record { after = omega arith; on = omega arith; room = λ _. omega arith; copper = λ _. sym (c .before .is-copper .ensures) ∙ c .if1 .taken }

@@ -1,48 +1,48 @@
--- `exact::solve_part` meets its contract: the envelope is built of the part's costs (`part-line`), and the part is written by its holders.
+-- `exact::solve_part` meets its contract: the envelope is built of the part's costs, and the part is written by its holders.
 -- Assumes nothing.
-use mathlib.Core.Path.{refl, sym}
+use mathlib.Core.Path.{refl, sym, _∙_}
 use native.Mathlib.Omega.{arith}
-use lib.ListN.{length-take, length-drop}
 use borrow.Author.Needs.{needs}
-use Rattle.exact.proofs.Parts.{part-line}
+use Rattle.exact.proofs.Parts.{line-to}
+use Rattle.exact.proofs.Prices.{priced-best}
 use Rattle.exact.proofs.Runs.{run-same}
 use Rattle.exact.proofs.solve_part.Statement.{statement}
 use Rattle.exact.proofs.solve_part.Tie as tie
 
+abbrev start : tie.After-price-row → tie.Start
+start c = c .before .before .before .before .before
+
+abbrev priced : tie.After-build → tie.After-price-row
+priced c = c .before .before .before .before .before .before
+
 build-requires : tie.Need-build-requires
-build-requires c κs = part-line _ (c .before .before .before .before .before .before .pre .1)
+build-requires c κs = let p = c .before .before .before .before .before in line-to (start p .pre .1) (omega arith) (p .price-row .kept .1 .1 .0) refl refl
 
 write-row-requires : tie.Need-write-row-requires
 write-row-requires c κs =
-    let b = c .before .before .before .before .before .before .before .before in
-    let s = b .before .before .before .before .before .before .before .pre in
+    let b = c .before .before .before .before .before .before .before in
+    let s = start (priced b) .pre in
     let e = b .build .ensures .entries in (
-      (omega (arith, s), (omega (arith, s .1 .short), simp (length-take, length-drop) (omega (arith, s)))),
+      (s .0 .0, (s .1 .short, s .0 .1)),
       ((omega (arith, b .build .kept, e .few, s .1 .sites), omega (arith, b .build .kept, e .few, s .1 .starts)), e .seen),
     )
 
 returns : tie.Need-returns
 returns c =
-    let b = c .before .before .before .before .before .before .before .before .before .before .build in
-    run-same (c .before .write-row .ensures) (λ x i l. (sym (b .ensures .holds x l), refl))
+    let b = c .before .before .before .before .before .before .before .before .before in
+    let p = priced b in
+    let s = start p in
+    run-same (c .before .write-row .ensures)
+    (λ x i l. (priced-best (s .args .ways .now) (p .price-row .last .1 .1 .0) (s .args .n) x (s .pre .1 .short) (p .price-row .ensures) ∙ sym (b .build .ensures .holds x l), refl))
 
 pub solve-part-spec : {M : Type 1} → statement M
 solve-part-spec =
     tie.close
     (tie.spec
-    (λ c. search needs)
-    (λ c. search needs)
-    (λ c. search needs)
-    (λ c. search needs)
-    (λ c. search needs)
+    (λ c κs. search needs)
     build-requires
-    (λ c. search needs)
-    (λ c. search needs)
-    (λ c. search needs)
-    (λ c. search needs)
-    (λ c. search needs)
-    (λ c. search needs)
     write-row-requires
+    (λ c. search needs)
     (λ c. search needs)
     (λ c. search needs)
     (λ c. search needs)

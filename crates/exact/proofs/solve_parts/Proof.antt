@@ -9,28 +9,28 @@ use Rattle.exact.proofs.solve_parts.Statement.{statement}
 use Rattle.exact.proofs.solve_parts.Tie as tie
 
 abbrev Inv-loop : tie.InvT-loop
-Inv-loop map₀ base w ways cost site₀ start₀ lo₀ done₀ map site start lo done =
-    Parted base w ways cost map₀ lo done map × ((length site ≡ length site₀) × (length start ≡ length start₀))
+Inv-loop map₀ base w ways cost₀ site₀ start₀ lo₀ done₀ map cost site start lo done =
+    Parted base w ways map₀ lo done map × ((length cost ≡ length cost₀) × ((length site ≡ length site₀) × (length start ≡ length start₀)))
 
 abbrev μ-loop : tie.MeasureT-loop
-μ-loop map₀ base w ways cost site₀ start₀ lo₀ done₀ map site start lo done = w - done
+μ-loop map₀ base w ways cost₀ site₀ start₀ lo₀ done₀ map cost site start lo done = w - done
 
 loop-holds : tie.Need-loop-holds Inv-loop μ-loop
-loop-holds c = (parted-none, (refl, refl))
+loop-holds c = (parted-none, (refl, (refl, refl)))
 
 solve-next-requires : tie.Need-solve-next-requires Inv-loop μ-loop
 solve-next-requires c κs =
-    let l = c .before .before .before .before in
+    let l = c .before .before .before .before .before in
     let s = l .before .before .before .before .pre in
     let p = l .loop .inv .0 in (
       omega (arith, p .written .long, s .0),
-      ((line-to (s .1 .0) (omega arith) (l .loop .inv .1 .0) (l .loop .inv .1 .1), s .1 .1), (p .behind, (omega arith, p .copper (omega arith)))),
+      (line-to (s .1) (omega arith) (l .loop .inv .1 .0) (l .loop .inv .1 .1 .0) (l .loop .inv .1 .1 .1), (p .behind, (omega arith, p .copper (omega arith)))),
     )
 
 loop-again : tie.Need-loop-again Inv-loop μ-loop
 loop-again c =
-    let n = c .before .before .before .before .before in
-    let l = n .before .before .before .before .before .loop .inv in
+    let n = c .before .before .before .before .before .before .before in
+    let l = n .before .before .before .before .before .before .loop .inv in
     (parted-more (l .0) (n .solve-next .ensures), omega (arith, n .solve-next .kept, l .1))
 
 returns : tie.Need-returns Inv-loop μ-loop
@@ -44,9 +44,10 @@ solve-parts-spec =
     μ-loop
     loop-holds
     solve-next-requires
-    (λ c. omega (arith, c .before .before .before .before .before .solve-next .ensures .more))
-    (λ c. omega (arith, c .before .before .before .before .before .solve-next .ensures .more))
+    (λ c. omega (arith, c .before .before .before .before .before .before .before .solve-next .ensures .more))
+    (λ c. omega (arith, c .before .before .before .before .before .before .before .solve-next .ensures .more))
     loop-again
+    (λ c. omega arith)
     (λ c. omega arith)
     (λ c. omega arith)
     (λ c. omega arith)

@@ -1,35 +1,25 @@
--- `exact::solve_row` meets its contract: the row is priced, and written by its parts (`row-solved`).
+-- `exact::solve_row` meets its contract: the row's ways are copied, and it is written by its parts (`row-solved`).
 -- Assumes nothing.
 use native.Mathlib.Omega.{arith}
 use borrow.Author.Needs.{needs}
-use Rattle.exact.proofs.Prices.{priced-free, row-solved}
+use Rattle.exact.proofs.Prices.{row-solved}
 use Rattle.exact.proofs.solve_row.Statement.{statement}
 use Rattle.exact.proofs.solve_row.Tie as tie
 
-abbrev start : tie.After-price-row → tie.Start
-start c = c .before .before .before .before .before .before .before
+abbrev start : tie.After-copy-row → tie.Start
+start c = c .before .before .before .before .before .before
 
 solve-parts-requires : tie.Need-solve-parts-requires
 solve-parts-requires c κs =
-    let p = c .before .before .before .before .before .before .before .before in
-    let s = start p .pre in (
-      (s .0 .0, omega (arith, p .price-row .kept, s .1)),
-      (
-        record {
-          short = s .0 .1;
-          costs = omega (arith, p .price-row .kept, s .1);
-          sites = s .1 .1 .1 .0;
-          starts = s .1 .1 .1 .1;
-        },
-        priced-free (p .price-row .ensures),
-      ),
-    )
+    let p = c .before .before .before .before .before .before in
+    let s = start p .pre in
+    ((s .0 .0, omega (arith, p .copy-row .kept, s .1)), record { short = s .0 .1; costs = s .1 .1 .0; sites = s .1 .1 .1 .0; starts = s .1 .1 .1 .1 })
 
 returns : tie.Need-returns
 returns c =
-    let r = c .before .before .before .before .before in
-    let p = r .before .before .before .before .before .before .before .before .before in
-    row-solved (start p .pre .0 .1) (p .price-row .ensures) (r .solve-parts .ensures)
+    let r = c .before .before .before .before .before .before .before in
+    let p = r .before .before .before .before .before .before .before in
+    row-solved (p .copy-row .last .1 .1 .1 .0) (start p .pre .0 .1) (p .copy-row .ensures) (r .solve-parts .ensures)
 
 pub solve-row-spec : {M : Type 1} → statement M
 solve-row-spec =
