@@ -1,7 +1,7 @@
 -- The test `near` says what `Near` says; on an exact map it is the test of the size.
 -- Assumes nothing.
 use mathlib.Core.Path.{_≡_, refl, sym, _∙_}
-use mathlib.Core.Bool.{Bool, true, false, not, _&&_}
+use mathlib.Core.Bool.{Bool, true, false, not, _&&_, false≢true}
 use Prim.Native.Nat.{ℕ, _<_, _≤_}
 use native.Mathlib.Decide.{decLe}
 use native.Mathlib.Omega.{arith}
@@ -14,7 +14,7 @@ use Rattle.raster.specs.Limits.{maxSide, maxQ}
 use Rattle.raster.specs.LoopLaws.{some-found, some-true}
 use Rattle.raster.specs.Map.{dxAt, dyAt}
 use Rattle.raster.specs.Pixels.{Mask, index}
-use Rattle.raster.specs.Tests.{and-left, and-right}
+use Rattle.raster.specs.Tests.{and-left, and-right, same}
 use Rattle.raster.specs.Vector.{size}
 use Rattle.raster.specs.VectorLaws.{unlabelled-size, ends-size}
 use Rattle.exact.specs.Nearest.{exactMap}
@@ -38,11 +38,7 @@ module _ (copper : Mask) (w h q x y : ℕ) where
   near-true n = some-true w _ (n .column) (n .copper .across) (some-true h _ (n .row) (n .copper .down) (simp (n .copper .metal, le-leb (apart x y (n .column) (n .row)) q (n .within))))
 
   pub near-false : (Near copper w h x y q → ⊥) → near copper w h q x y ≡ false
-  near-false far = go (near copper w h q x y) refl
-    where
-      go : (t : Bool) → near copper w h q x y ≡ t → t ≡ false
-      go true e = absurd (far (near-found e))
-      go false e = refl
+  near-false far = same (near copper w h q x y) false (λ e. absurd (far (near-found e))) (λ e. absurd (false≢true e))
 
   abbrev vx : ℤ
   vx = dxAt (exactMap copper w h) (index w x y)

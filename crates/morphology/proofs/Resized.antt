@@ -1,7 +1,7 @@
 -- The sheet written by the sizes of the exact map is the one expanded; by those of the map of the sheet turned round, the one shrunk.
 -- Assumes nothing.
 use mathlib.Core.Path.{_≡_, refl, sym, ap, _∙_}
-use mathlib.Core.Bool.{Bool, true, false, not, cond, false≢true}
+use mathlib.Core.Bool.{Bool, true, false, not, cond}
 use mathlib.Core.List.{List}
 use Prim.Native.Nat.{ℕ, _*_, _<_, _≤_}
 use native.Mathlib.Omega.{arith}
@@ -13,10 +13,11 @@ use Rattle.raster.specs.Map.{sizeAt}
 use Rattle.raster.specs.Pixels.{Mask, index}
 use Rattle.raster.specs.PixelsLaws.{index-inside, tabulate-length, tabulate-at, pixels-is}
 use Rattle.raster.specs.Sheet.{copperOf}
+use Rattle.raster.specs.Tests.{same}
 use Rattle.exact.specs.Nearest.{exactMap}
 use Rattle.morphology.specs.Resize.{near, bareOf, expanded, shrunk}
 use Rattle.morphology.specs.Threshold.{turned, flipped, thresholded}
-use Rattle.morphology.proofs.Near.{near-found, near-true, near-false, size-near, stays-is}
+use Rattle.morphology.proofs.Near.{near-found, near-true, size-near, stays-is}
 
 -- ---- the sheet turned round
 
@@ -30,16 +31,15 @@ flipped-copper s w h x y whole a b = rw (tabulate-at (length s) (λ p. turned (g
 
 -- masks that agree on the sheet have the same pixels near
 pub near-same : (a b : Mask) (w h q x y : ℕ) → ((i j : ℕ) → i < w → j < h → a i j ≡ b i j) → near a w h q x y ≡ near b w h q x y
-near-same a b w h q x y same = go (near b w h q x y) refl
+near-same a b w h q x y agree =
+    same (near a w h q x y) (near b w h q x y)
+    (λ e. near-true b w h q x y (moved a b agree (near-found a w h q x y e)))
+    (λ e. near-true a w h q x y (moved b a (λ i j k l. sym (agree i j k l)) (near-found b w h q x y e)))
   where
     moved : (a b : Mask) → ((i j : ℕ) → i < w → j < h → a i j ≡ b i j) → Near a w h x y q → Near b w h x y q
-    moved a b same n =
+    moved a b agree n =
         let c = n .copper in
-        record { column = n .column; row = n .row; copper = record { across = c .across; down = c .down; metal = sym (same (n .column) (n .row) (c .across) (c .down)) ∙ c .metal }; within = n .within }
-
-    go : (t : Bool) → near b w h q x y ≡ t → near a w h q x y ≡ t
-    go true e = near-true a w h q x y (moved b a (λ i j k l. sym (same i j k l)) (near-found b w h q x y e))
-    go false e = near-false a w h q x y (λ n. false≢true (sym e ∙ near-true b w h q x y (moved a b same n)))
+        record { column = n .column; row = n .row; copper = record { across = c .across; down = c .down; metal = sym (agree (n .column) (n .row) (c .across) (c .down)) ∙ c .metal }; within = n .within }
 
 -- ---- by the sizes
 

@@ -10,8 +10,8 @@ use lib.IntN.{ℤ, pos, negsuc, natAbs, negℤ, _+ℤ_}
 use lib.Signed.{ltZ, nonNeg, mag}
 use mir.Syntax.{w16, w32}
 use mir.Val.{SFits, Fits, ofZ}
-use borrow.Author.Tests.{ne-eqb}
-use Rattle.raster.specs.Tests.{same-test}
+use borrow.Author.Tests.{eq-eqb, ne-eqb, eqb-true}
+use Rattle.raster.specs.Tests.{same}
 use Rattle.raster.specs.Vector.{Short, Wide, Step, isMark, inRange}
 use Rattle.raster.specs.VectorLaws.{add-abs}
 
@@ -47,7 +47,7 @@ abs-fits z f = omega arith
 -- the mark, by its bits
 pub mark-bits : (z : ℤ) → SFits w32 z → eqb (ofZ w32 z) 4294934528 ≡ isMark z
 mark-bits (pos n) f = ne-eqb n 4294934528 (omega arith)
-mark-bits (negsuc n) f = same-test (4294967296 - suc n) 4294934528 n 32767 (omega arith) (omega arith)
+mark-bits (negsuc n) f = same _ _ (λ e. eq-eqb n 32767 (omega (arith, eqb-true (4294967296 - suc n) 4294934528 e))) (λ e. eq-eqb (4294967296 - suc n) 4294934528 (omega (arith, eqb-true n 32767 e)))
 
 -- a component and a step add up in 32 bits
 mag-le : (z : ℤ) → mag z ≤ natAbs z

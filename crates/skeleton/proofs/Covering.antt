@@ -1,6 +1,6 @@
 -- A row covers what its best sites hit: the cost of a site is 2^31 less its size, so that it covers a pixel exactly if the pixel's price stays below 2^31.
 -- Assumes nothing.
-use mathlib.Core.Path.{_≡_, refl, sym, _∙_}
+use mathlib.Core.Path.{_≡_, refl, _∙_}
 use mathlib.Core.Logic.{⊎-elim}
 use mathlib.Core.Bool.{Bool, true, false, not, cond, _&&_, false≢true}
 use mathlib.Core.List.{List}
@@ -18,18 +18,12 @@ use Rattle.raster.specs.LoopLaws.{some-found, some-true}
 use Rattle.raster.specs.Map.{dxAt, dyAt, sizeAt}
 use Rattle.raster.specs.Pixels.{index}
 use Rattle.raster.specs.Sheet.{copperOf}
-use Rattle.raster.specs.Tests.{and-left, and-right}
+use Rattle.raster.specs.Tests.{and-left, and-right, same}
 use Rattle.raster.specs.Vector.{unlabelled}
 use Rattle.envelope.specs.Best.{priceOf, price, Site, bestSite}
 use Rattle.envelope.specs.BestLaws.{Least, best-found}
 use Rattle.skeleton.specs.Skeleton.{covers}
 use Rattle.skeleton.specs.Rebuild.{rowOf, line, costOf, Priced, Costs, hitBy}
-
--- two tests that say the same
-pub same : (a b : Bool) → (a ≡ true → b ≡ true) → (b ≡ true → a ≡ true) → a ≡ b
-same true b f g = sym (f refl)
-same false true f g = g refl
-same false false f g = refl
 
 -- ---- what a pixel costs
 

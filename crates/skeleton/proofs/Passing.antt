@@ -17,13 +17,14 @@ use Rattle.raster.specs.Loop.{some}
 use Rattle.raster.specs.LoopLaws.{some-found, some-true}
 use Rattle.raster.specs.Pixels.{index}
 use Rattle.raster.specs.PixelsLaws.{pixels-is, index-inside}
+use Rattle.raster.specs.Tests.{same}
 use Rattle.envelope.specs.Stack.{holder, Built}
 use Rattle.skeleton.specs.Skeleton.{covers, covered, rebuilt}
 use Rattle.skeleton.specs.Rows.{RowWritten}
 use Rattle.skeleton.specs.Rebuild.{rowOf, line, Priced, hitBy, RowRaised, Passed}
 use Rattle.skeleton.proofs.Rows.{row-other}
 use Rattle.skeleton.proofs.Raising.{raised-same}
-use Rattle.skeleton.proofs.Covering.{same, hit-line, turns-apart}
+use Rattle.skeleton.proofs.Covering.{hit-line, turns-apart}
 
 -- one turn of a pass has one row
 rows-differ : (up : Bool) (h t k : ℕ) → t < h → k < h → k ≢ t → rowOf up h k ≢ rowOf up h t
