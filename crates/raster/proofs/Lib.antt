@@ -1,4 +1,3 @@
 -- What the proofs of several functions use.
 pub mod Signed
-pub mod Filling
 pub mod Writing

@@ -1,36 +1,52 @@
 -- A loop that writes f 0, f 1, .. into a list from the front: how it starts, one turn, how it ends.
 -- Assumes nothing.
-use mathlib.Core.Path.{_≡_, refl, ap, _∙_}
-use mathlib.Core.List.{List}
-use Prim.Native.Nat.{ℕ, _+_, _<_, _≤_}
-use native.Mathlib.Decide.{decLt}
+use mathlib.Core.Path.{_≡_, refl, sym, ap, _∙_}
+use mathlib.Core.List.{List, [], _∷_, _++_, append-nil}
+use Prim.Native.Nat.{ℕ, zero, suc, _+_, _-_, _<_, _≤_}
+use native.Mathlib.Nat.{not-suc-le-zero, le-of-suc-le-suc}
+use native.Mathlib.Numerals.{add-one}
 use native.Mathlib.Omega.{arith}
-use lib.ListN.{length, getD, set, length-set}
-use lib.Seq.{getD-set-same, getD-set-other}
+use lib.ListN.{length, getD, set, drop, replicate, length-set}
+use lib.Seq.{getD-append-add, getD-drop, drop-length}
 use Rattle.raster.specs.Pixels.{tabulate}
-use Rattle.raster.specs.PixelsLaws.{tabulate-is}
+use Rattle.raster.specs.PixelsLaws.{tabulate-length}
 
-module _ {A : Type 0} (f : ℕ → A) (d : A) (before : List A) where
+one-more : {A : Type 0} (n : ℕ) (f : ℕ → A) (s : List A) → n < length s → set (tabulate n f ++ drop n s) n (f n) ≡ tabulate (suc n) f ++ drop (suc n) s
+unfolding tabulate
+one-more n f [] l = absurd (not-suc-le-zero l)
+one-more zero f (x ∷ s) l = refl
+one-more {A} (suc n) f (x ∷ s) l = ap (λ (t : List A). f 0 ∷ t) (one-more n (λ i. f (suc i)) s (le-of-suc-le-suc l))
+
+module _ {A : Type 0} (f : ℕ → A) (before : List A) where
   -- the first i elements are written, the rest are as they were
   pub record Writing (i : ℕ) (after : List A) : Type 0 where
-    pub done : (k : ℕ) → k < i → getD after k d ≡ f k
-    pub rest : (k : ℕ) → i ≤ k → getD after k d ≡ getD before k d
+    pub made : after ≡ tabulate i f ++ drop i before
     pub on : i ≤ length before
     pub long : length after ≡ length before
 
   pub write-none : Writing 0 before
-  write-none = record { done = λ k l. absurd (omega arith); rest = λ k l. refl; on = omega arith; long = refl }
+  unfolding tabulate
+  write-none = record { made = refl; on = omega arith; long = refl }
 
   pub write-more : {i : ℕ} {after : List A} {v : A} → Writing i after → i < length before → v ≡ f i → Writing (i + 1) (set after i v)
-  write-more {i} {after} {v} w l e = record {
-    done = λ k m. elim (decLt k i) [
-      | yes q ↦ getD-set-other after i k v d (omega arith) ∙ w .done k q
-      | no q ↦ let z : k ≡ i = omega arith in rw (z, getD-set-same after i v d (omega (arith, w .long))) e
-    ];
-    rest = λ k m. getD-set-other after i k v d (omega arith) ∙ w .rest k (omega arith);
-    on = omega arith;
-    long = simp length-set (w .long);
-  }
+  write-more {i} {after} {v} w l e =
+      record { made = rw (add-one, e) (ap (λ (t : List A). set t i (f i)) (w .made) ∙ one-more i f before l); on = omega arith; long = simp length-set (w .long) }
+
+  pub write-rest : {i : ℕ} {after : List A} → Writing i after → (k : ℕ) (d : A) → i ≤ k → getD after k d ≡ getD before k d
+  write-rest {i} {after} w k d l =
+      let e : length (tabulate i f) + (k - i) ≡ k = omega (arith, tabulate-length i f) in
+      let g : i + (k - i) ≡ k = omega arith in
+      ap (λ (t : List A). getD t k d) (w .made)
+      ∙ sym (ap (λ (p : ℕ). getD (tabulate i f ++ drop i before) p d) e)
+      ∙ getD-append-add (tabulate i f) _ (k - i) d
+      ∙ getD-drop i before (k - i) d
+      ∙ ap (λ (p : ℕ). getD before p d) g
 
   pub write-all : {i : ℕ} {after : List A} → Writing i after → length before ≤ i → after ≡ tabulate (length before) f
-  write-all {i} {after} w l = tabulate-is (length before) f after d (w .long) (λ k m. w .done k (omega arith))
+  write-all {i} {after} w l = let n : i ≡ length before = omega (arith, w .on) in w .made ∙ rw (n, drop-length, append-nil)
+
+-- where every element is the same
+pub tabulate-same : {A : Type 0} (n : ℕ) (v : A) → tabulate n (λ i. v) ≡ replicate n v
+unfolding tabulate
+tabulate-same zero v = refl
+tabulate-same (suc n) v = ap (λ (t : List _). v ∷ t) (tabulate-same n v)

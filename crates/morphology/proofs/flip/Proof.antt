@@ -5,13 +5,13 @@ use Prim.Native.Nat.{_-_}
 use native.Mathlib.Omega.{arith}
 use lib.ListN.{length, getD}
 use borrow.Author.Needs.{needs}
-use Rattle.raster.proofs.Writing.{Writing, write-none, write-more, write-all}
+use Rattle.raster.proofs.Writing.{Writing, write-none, write-more, write-rest, write-all}
 use Rattle.morphology.specs.Threshold.{turned, flipped}
 use Rattle.morphology.proofs.flip.Statement.{statement}
 use Rattle.morphology.proofs.flip.Tie as tie
 
 abbrev Inv-loop : tie.InvT-loop
-Inv-loop sheet₀ p₀ p-end sheet p = Writing (λ k. turned (getD sheet₀ k 0)) 0 sheet₀ p sheet
+Inv-loop sheet₀ p₀ p-end sheet p = Writing (λ k. turned (getD sheet₀ k 0)) sheet₀ p sheet
 
 abbrev μ-loop : tie.MeasureT-loop
 μ-loop sheet₀ p₀ p-end sheet p = length sheet₀ - p
@@ -19,11 +19,11 @@ abbrev μ-loop : tie.MeasureT-loop
 loop-again : tie.Need-loop-again Inv-loop μ-loop
 loop-again c =
     let l = c .before .before .before .loop in
-    write-more _ 0 _ (l .inv) (omega arith) (c .turn .ensures ∙ ap turned (l .inv .rest (l .p) (omega arith)))
+    write-more _ _ (l .inv) (omega arith) (c .turn .ensures ∙ ap turned (write-rest _ _ (l .inv) (l .p) 0 (omega arith)))
 
 returns : tie.Need-returns Inv-loop μ-loop
 unfolding flipped
-returns c = write-all _ 0 _ (c .before .loop .inv) (omega arith)
+returns c = write-all _ _ (c .before .loop .inv) (omega arith)
 
 pub flip-spec : {M : Type 1} → statement M
 flip-spec =
@@ -31,7 +31,7 @@ flip-spec =
     (tie.spec
     Inv-loop
     μ-loop
-    (λ c. write-none _ 0 _)
+    (λ c. write-none _ _)
     (λ c. omega arith)
     (λ c κs. search needs)
     (λ c. omega arith)

@@ -12,17 +12,17 @@ use Rattle.morphology.proofs.threshold.Statement.{statement}
 use Rattle.morphology.proofs.threshold.Tie as tie
 
 abbrev Inv-loop : tie.InvT-loop
-Inv-loop map sheet₀ q near p₀ p-end sheet p = Writing (λ k. cond (leb (sizeAt map k) q) near (turned near)) 0 sheet₀ p sheet
+Inv-loop map sheet₀ q near p₀ p-end sheet p = Writing (λ k. cond (leb (sizeAt map k) q) near (turned near)) sheet₀ p sheet
 
 abbrev μ-loop : tie.MeasureT-loop
 μ-loop map sheet₀ q near p₀ p-end sheet p = length sheet₀ - p
 
 loop-again : tie.Need-loop-again Inv-loop μ-loop
-loop-again c = write-more _ 0 _ (c .before .before .loop .inv) (omega arith) (c .level .ensures)
+loop-again c = write-more _ _ (c .before .before .loop .inv) (omega arith) (c .level .ensures)
 
 returns : tie.Need-returns Inv-loop μ-loop
 unfolding thresholded
-returns c = write-all _ 0 _ (c .before .loop .inv) (omega arith)
+returns c = write-all _ _ (c .before .loop .inv) (omega arith)
 
 pub threshold-spec : {M : Type 1} → statement M
 threshold-spec =
@@ -30,7 +30,7 @@ threshold-spec =
     (tie.spec
     Inv-loop
     μ-loop
-    (λ c. write-none _ 0 _)
+    (λ c. write-none _ _)
     (λ c κs. omega arith)
     (λ c. omega arith)
     (λ c. omega arith)

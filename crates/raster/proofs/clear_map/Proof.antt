@@ -1,27 +1,28 @@
 -- `raster::clear_map` meets its contract. The invariant: the first i components are the mark, the rest are as they were.
 -- Assumes nothing.
+use mathlib.Core.Path.{refl, _∙_}
 use Prim.Native.Nat.{_-_}
 use native.Mathlib.Omega.{arith}
 use lib.ListN.{length}
-use Rattle.raster.proofs.Filling.{Filling, fill-none, fill-more, fill-all}
+use Rattle.raster.proofs.Writing.{Writing, write-none, write-more, write-all, tabulate-same}
 use Rattle.raster.specs.Vector.{mark}
 use Rattle.raster.proofs.clear_map.Statement.{statement}
 use Rattle.raster.proofs.clear_map.Tie as tie
 
 abbrev Inv-loop : tie.InvT-loop
-Inv-loop map₀ i₀ i-end map i = Filling mark map₀ i map
+Inv-loop map₀ i₀ i-end map i = Writing (λ k. mark) map₀ i map
 
 abbrev μ-loop : tie.MeasureT-loop
 μ-loop map₀ i₀ i-end map i = length map₀ - i
 
 loop-holds : tie.Need-loop-holds Inv-loop μ-loop
-loop-holds c = fill-none mark _
+loop-holds c = write-none _ _
 
 loop-again : tie.Need-loop-again Inv-loop μ-loop
-loop-again c = fill-more (c .before .loop .inv) (omega arith)
+loop-again c = write-more _ _ (c .before .loop .inv) (omega arith) refl
 
 returns : tie.Need-returns Inv-loop μ-loop
-returns c = fill-all (c .before .loop .inv) (omega arith)
+returns c = write-all _ _ (c .before .loop .inv) (omega arith) ∙ tabulate-same _ mark
 
 pub clear-map-spec : {M : Type 1} → statement M
 clear-map-spec =
