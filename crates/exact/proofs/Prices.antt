@@ -4,11 +4,10 @@ use mathlib.Core.Path.{_≡_, refl, sym, ap, _∙_}
 use mathlib.Core.Logic.{⊎-elim}
 use mathlib.Core.List.{List}
 use Prim.Native.Nat.{ℕ, zero, suc, _+_, _<_, _≤_}
-use native.Mathlib.Decide.{ℕ-discrete}
 use native.Mathlib.Omega.{arith}
 use lib.IntN.{ℤ, pos}
 use lib.ListN.{length, getD, set, length-set}
-use lib.Seq.{getD-set-same, getD-set-other}
+use Rattle.raster.proofs.Writing.{set-more}
 use Rattle.raster.specs.PixelsLaws.{tabulate-at}
 use Rattle.envelope.specs.Best.{better, bestSite}
 use Rattle.envelope.specs.BestLaws.{best-found}
@@ -29,10 +28,7 @@ module _ {A : Type 0} {d : A} {f : ℕ → A} {n : ℕ} {before : List A} where
   filled-more {k} {s} v p h i e = record {
     on = omega arith;
     long = length-set s k v ∙ p .long;
-    at = λ j l. elim (ℕ-discrete j k) [
-      | yes q ↦ rw q (getD-set-same s k v d i ∙ e)
-      | no q ↦ getD-set-other s k j v d q ∙ p .at j (omega arith)
-    ];
+    at = set-more d (λ j u. u ≡ f j) (λ j. j) s i (λ j l. omega arith) e (p .at);
   }
 
   pub filled-all : {k : ℕ} {s : List A} → Filled d f n before k s → n ≤ k → (j : ℕ) → j < n → getD s j d ≡ f j

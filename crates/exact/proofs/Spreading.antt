@@ -4,11 +4,11 @@ use mathlib.Core.Path.{_≡_, refl, _∙_}
 use mathlib.Core.Bool.{Bool}
 use mathlib.Core.List.{List}
 use Prim.Native.Nat.{ℕ, _+_, _<_, _≤_}
-use native.Mathlib.Decide.{ℕ-discrete}
 use native.Mathlib.Omega.{arith}
 use lib.IntN.{ℤ, pos}
 use lib.ListN.{length, getD, set, length-set}
 use lib.Seq.{getD-set-same, getD-set-other}
+use Rattle.raster.proofs.Writing.{set-more}
 use Rattle.exact.specs.Ways.{farther, Spread}
 
 -- the first x pixels of the row are spread, and `near` is as it was from there on
@@ -40,23 +40,16 @@ module _ {base w : ℕ} {copper : ℕ → Bool} {made : ℕ → ℤ → ℤ} {wa
       done = record {
         long = length-set ways′ (base + x) z ∙ s .done .long;
         near-long = length-set near′ x v ∙ s .done .near-long;
-        steps = λ a l. elim (ℕ-discrete a x) [
-          | yes q ↦ rw q (same ∙ e)
-          | no q ↦ other a q ∙ s .done .steps a (omega arith)
-        ];
-        here = λ a l. elim (ℕ-discrete a x) [
-          | yes q ↦ rw q (getD-set-same ways′ (base + x) z (pos 0) i ∙ rw same f)
-          | no q ↦ getD-set-other ways′ (base + x) (base + a) z (pos 0) (omega arith) ∙ rw (other a q) (s .done .here a (omega arith))
-        ];
+        steps = set-more (pos 0) (λ a u. u ≡ farther (copper a) (getD near a (pos 0))) (λ a. a) near′ j (λ a l. omega arith) e (s .done .steps);
+        here =
+            set-more (pos 0) (λ a u. u ≡ made a (getD (set near′ x v) a (pos 0))) (λ a. base + a) ways′ i (λ a l. omega arith)
+            (rw (getD-set-same near′ x v (pos 0) j) f) (λ a l. rw (other a (omega arith)) (s .done .here a l));
         under = λ a l. getD-set-other ways′ (base + x) a z (pos 0) (omega arith) ∙ s .done .under a l;
         over = λ a l. getD-set-other ways′ (base + x) a z (pos 0) (omega arith) ∙ s .done .over a (omega arith);
       };
       left = λ a l. other a (omega arith) ∙ s .left a (omega arith);
     }
       where
-        same : getD (set near′ x v) x (pos 0) ≡ v
-        same = getD-set-same near′ x v (pos 0) j
-
         other : (a : ℕ) → (a ≡ x → ⊥) → getD (set near′ x v) a (pos 0) ≡ getD near′ a (pos 0)
         other a q = getD-set-other near′ x a v (pos 0) q
 

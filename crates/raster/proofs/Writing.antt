@@ -1,15 +1,26 @@
--- A loop that writes f 0, f 1, .. into a list from the front: how it starts, one turn, how it ends.
+-- A loop that writes f 0, f 1, .. into a list from the front: how it starts, one turn, how it ends; and what one write more leaves.
 -- Assumes nothing.
 use mathlib.Core.Path.{_≡_, refl, sym, ap, _∙_}
+use mathlib.Core.Logic.{_≢_}
 use mathlib.Core.List.{List, [], _∷_, _++_, append-nil}
 use Prim.Native.Nat.{ℕ, zero, suc, _+_, _-_, _<_, _≤_}
+use native.Mathlib.Decide.{ℕ-discrete}
 use native.Mathlib.Nat.{not-suc-le-zero, le-of-suc-le-suc}
 use native.Mathlib.Numerals.{add-one}
 use native.Mathlib.Omega.{arith}
 use lib.ListN.{length, getD, set, drop, replicate, length-set}
-use lib.Seq.{getD-append-add, getD-drop, drop-length}
+use lib.Seq.{getD-set-same, getD-set-other, getD-append-add, getD-drop, drop-length}
 use Rattle.raster.specs.Pixels.{tabulate}
 use Rattle.raster.specs.PixelsLaws.{tabulate-length}
+
+-- what holds of the first n places, and of what is written to the next, holds of n + 1 places
+pub set-more : {A : Type 0} (d : A) (P : ℕ → A → Type 0) (place : ℕ → ℕ) (s : List A) {n : ℕ} {v : A}
+    → place n < length s → ((i : ℕ) → i < n → place i ≢ place n) → P n v → ((i : ℕ) → i < n → P i (getD s (place i) d))
+    → (i : ℕ) → i < n + 1 → P i (getD (set s (place n) v) (place i) d)
+set-more d P place s {n} {v} room apart new old i l = elim (ℕ-discrete i n) [
+  | yes q ↦ rw (q, getD-set-same s (place n) v d room) new
+  | no q ↦ rw (getD-set-other s (place n) (place i) v d (apart i (omega arith))) (old i (omega arith))
+]
 
 one-more : {A : Type 0} (n : ℕ) (f : ℕ → A) (s : List A) → n < length s → set (tabulate n f ++ drop n s) n (f n) ≡ tabulate (suc n) f ++ drop (suc n) s
 unfolding tabulate

@@ -11,8 +11,9 @@ use native.Mathlib.Omega.{arith}
 use lib.Dec.{leb}
 use lib.IntN.{ℤ}
 use lib.ListN.{length, getD, set, length-set, replicate, getD-replicate}
-use lib.Seq.{getD-set-same, getD-set-other}
+use lib.Seq.{getD-set-other}
 use borrow.Author.Tests.{le-leb, lt-leb, leb-true}
+use Rattle.raster.proofs.Writing.{set-more}
 use Rattle.raster.specs.Tests.{and-left, and-right, cond-ind}
 use Rattle.skeleton.specs.Table.{g}
 use Rattle.skeleton.specs.Skeleton.{within}
@@ -23,12 +24,7 @@ part-none = record { entry = λ i l. absurd (omega arith) }
 
 module _ {start n : ℕ} {f : ℕ → ℕ} {s : List ℕ} where
   part-more : {v : ℕ} → Part start n f s → start + n < length s → v ≡ f n → Part start (n + 1) f (set s (start + n) v)
-  part-more {v} r l e = record {
-    entry = λ i m. elim (ℕ-discrete i n) [
-      | yes q ↦ rw q (getD-set-same s (start + n) v 0 l ∙ e)
-      | no q ↦ getD-set-other s (start + n) (start + i) v 0 (omega arith) ∙ r .entry i (omega arith)
-    ];
-  }
+  part-more r l e = record { entry = set-more 0 (λ i u. u ≡ f i) (λ i. start + i) s l (λ i m. omega arith) e (r .entry) }
 
   -- a number elsewhere changes nothing
   part-other : (p v : ℕ) → Part start n f s → ((i : ℕ) → i < n → start + i ≢ p) → Part start n f (set s p v)

@@ -5,13 +5,12 @@ use mathlib.Core.Logic.{⊎-elim}
 use mathlib.Core.Bool.{Bool, true, false, not, cond, _&&_, false≢true}
 use mathlib.Core.List.{List}
 use Prim.Native.Nat.{ℕ, _+_, _-_, _*_, _<_, _≤_}
-use native.Mathlib.Decide.{ℕ-discrete}
 use native.Mathlib.Omega.{arith}
 use lib.Dec.{eqb, ltb}
 use lib.IntN.{ℤ}
 use lib.ListN.{length, getD, set}
-use lib.Seq.{getD-set-same, getD-set-other}
 use borrow.Author.Tests.{lt-ltb, ltb-true, ne-eqb, eq-eqb}
+use Rattle.raster.proofs.Writing.{set-more}
 use Rattle.raster.specs.Distance.{gap, apart}
 use Rattle.raster.specs.Loop.{some}
 use Rattle.raster.specs.LoopLaws.{some-found, some-true}
@@ -55,14 +54,8 @@ module _ {m : List ℤ} {marks : List ℕ} {base : ℕ} where
   pub priced-more : {k v : ℕ} {cost : List ℕ} → Priced m marks base k cost → k < length cost
       → (v ≡ costOf m marks (base + k)) × (v < 4294967295 → sizeAt m (base + k) ≤ 2147483648) → Priced m marks base (k + 1) (set cost k v)
   priced-more {k} {v} {cost} p l e = record {
-    costs = λ j a. elim (ℕ-discrete j k) [
-      | yes q ↦ rw q (getD-set-same cost k v 0 l ∙ e .0)
-      | no q ↦ getD-set-other cost k j v 0 q ∙ p .costs j (omega arith)
-    ];
-    sizes = λ j a i. elim (ℕ-discrete j k) [
-      | yes q ↦ rw q (e .1 (rw (q, getD-set-same cost k v 0 l) at i))
-      | no q ↦ p .sizes j (omega arith) (rw (getD-set-other cost k j v 0 q) at i)
-    ];
+    costs = set-more 0 (λ j u. u ≡ costOf m marks (base + j)) (λ j. j) cost l (λ j a. omega arith) (e .0) (p .costs);
+    sizes = set-more 0 (λ j u. u < 4294967295 → sizeAt m (base + j) ≤ 2147483648) (λ j. j) cost l (λ j a. omega arith) (e .1) (p .sizes);
   }
 
 -- ---- a row and the pixels of another, z

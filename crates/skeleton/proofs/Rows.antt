@@ -4,11 +4,12 @@ use mathlib.Core.Path.{_≡_, refl, _∙_}
 use mathlib.Core.Logic.{_≢_}
 use mathlib.Core.List.{List}
 use Prim.Native.Nat.{ℕ, _+_, _*_, _<_, _≤_}
-use native.Mathlib.Decide.{decLt, ℕ-discrete}
+use native.Mathlib.Decide.{decLt}
 use native.Mathlib.Nat.{mul-le-mul-right}
 use native.Mathlib.Omega.{arith}
 use lib.ListN.{length, getD, set, length-set}
-use lib.Seq.{getD-set-same, getD-set-other}
+use lib.Seq.{getD-set-other}
+use Rattle.raster.proofs.Writing.{set-more}
 use Rattle.raster.specs.Pixels.{index, pixels}
 use Rattle.raster.specs.PixelsLaws.{pixels-is}
 use Rattle.skeleton.specs.Rows.{RowWritten}
@@ -21,10 +22,7 @@ module _ {base : ℕ} {f : ℕ → ℕ} {before : List ℕ} where
       → RowWritten base (n + 1) f before (set after (base + n) v)
   row-more {n} {v} {after} r l e = record {
     long = length-set after (base + n) v ∙ r .long;
-    here = λ x m. elim (ℕ-discrete x n) [
-      | yes q ↦ rw q (getD-set-same after (base + n) v 0 (omega (arith, r .long)) ∙ e)
-      | no q ↦ getD-set-other after (base + n) (base + x) v 0 (omega arith) ∙ r .here x (omega arith)
-    ];
+    here = set-more 0 (λ x u. u ≡ f x) (λ x. base + x) after (omega (arith, r .long)) (λ x m. omega arith) e (r .here);
     under = λ p m. getD-set-other after (base + n) p v 0 (omega arith) ∙ r .under p m;
     over = λ p m. getD-set-other after (base + n) p v 0 (omega arith) ∙ r .over p (omega arith);
   }
