@@ -13,6 +13,7 @@ use borrow.Author.Tests.{eqb-true, eqb-false, ne-eqb, leb-true, not-true, not-fa
 use Rattle.raster.specs.LoopLaws.{some-found, some-false}
 use Rattle.raster.specs.Distance.{Clear}
 use Rattle.raster.specs.Pixels.{Mask, index}
+use Rattle.raster.specs.Refusal.{lastOf}
 use Rattle.raster.specs.Tests.{and-left}
 use Rattle.raster.specs.Sheet.{copperOf, bare, covers}
 use Rattle.raster.specs.Map.{unmapped}
@@ -241,7 +242,7 @@ module _ {b : Board} {w : World} (inv : Inv b w) where
       stands = λ c. absurd (true≢false (sym c));
     }
 
-    builds : (t u : Bool) → eqb (session.lastOf refusal over 35) 0 ≡ t → eqb (session.lastOf refusal over 35) 35 ≡ u
+    builds : (t u : Bool) → eqb (lastOf refusal over 35) 0 ≡ t → eqb (lastOf refusal over 35) 35 ≡ u
         → Inv (cond t (done (build e scratch) b) (cond u (recoppered (b .copper) b) b))
         (world (cond t (builtBy e s) (cond u (stale s) s)) (w .sheet) (cond t (session.mapOf s (w .sheet) e) (cond u (unmapped (w .map)) (w .map))))
     builds true u p q =
@@ -258,7 +259,7 @@ module _ {b : Board} {w : World} (inv : Inv b w) where
         safe = λ p. tt;
         fair = λ p. eqb-false _ 34 (last-never refusal over 35 (omega arith) 34 (omega arith) (build-quiet s (w .sheet) (w .map) scratch e .no-34) refl) p;
       };
-      next = builds (eqb (session.lastOf refusal over 35) 0) (eqb (session.lastOf refusal over 35) 35) refl refl;
+      next = builds (eqb (lastOf refusal over 35) 0) (eqb (lastOf refusal over 35) 35) refl refl;
     }
 
   -- ---- place
@@ -271,7 +272,7 @@ module _ {b : Board} {w : World} (inv : Inv b w) where
     passing = session.passesAt (s .engine) (w .map) (index (s .width) x y) q
 
     abbrev placeA : ℕ
-    placeA = session.lastOf placing (not passing) 34
+    placeA = lastOf placing (not passing) 34
 
     place-free : placeA ≡ 0 → Clear (copperOf (w .sheet) (s .width)) (s .width) (s .height) x y q
     place-free p =
@@ -318,7 +319,7 @@ module _ {b : Board} {w : World} (inv : Inv b w) where
     stops = blocked s (w .map) d n
 
     abbrev runA : ℕ
-    runA = session.lastOf running stops 34
+    runA = lastOf running stops 34
 
     granted : running ≡ 0 → Running s (w .map) d n
     granted = run-granted s (w .map) d n refl

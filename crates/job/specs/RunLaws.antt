@@ -11,11 +11,11 @@ use lib.ListN.{length, take, drop, length-drop, take-append-drop}
 use lib.Seq.{length-take-le, drop-drop}
 use borrow.Author.Tests.{lt-ltb, le-ltb, ltb-true, leb-true}
 use Rattle.raster.specs.Pixels.{index}
-use Rattle.raster.specs.Refusal.{firstOf}
-use Rattle.raster.specs.Tests.{and-left, and-right, cond-ind}
+use Rattle.raster.specs.Refusal.{firstOf, lastOf}
+use Rattle.raster.specs.RefusalLaws.{every, first-every, last-every}
+use Rattle.raster.specs.Tests.{and-left, and-right}
 use Rattle.session.specs.declared.Session.{Session}
 use Rattle.session.specs.Calls.{
-  lastOf,
   scanOf,
   passesAt,
   blocked,
@@ -43,26 +43,14 @@ use Rattle.job.specs.ObeyLaws.{here}
 
 -- ---- no answer has more than two digits
 
-small : List (Bool × ℕ) → Bool
-small [] = true
-small ((when, number) ∷ rest) = ltb number 100 && small rest
-
-first-small : (table : List (Bool × ℕ)) → small table ≡ true → firstOf table < 100
-unfolding small firstOf
-first-small [] e = omega arith
-first-small ((when, number) ∷ rest) e =
-    cond-ind (λ (n : ℕ). n < 100) when
-    (λ _. ltb-true number 100 (and-left (ltb number 100) _ e))
-    (λ _. first-small rest (and-right (ltb number 100) _ e))
+first-small : (table : List (Bool × ℕ)) → every (λ n. ltb n 100) table ≡ true → firstOf table < 100
+first-small table e = ltb-true (firstOf table) 100 (first-every (λ n. ltb n 100) table refl e)
 
 last-small : (r : ℕ) (when : Bool) (number : ℕ) → r < 100 → number < 100 → lastOf r when number < 100
-last-small r when number f g =
-    cond-ind (λ (n : ℕ). n < 100) (eqb r 0)
-    (λ _. cond-ind (λ (n : ℕ). n < 100) when (λ _. g) (λ _. omega arith))
-    (λ _. f)
+last-small r when number f g = last-every (λ n. n < 100) r when number (omega arith) f g
 
 pub two-digits : (c : calls.Call) (w : World) → answer c w < 100
-unfolding small openAnswer fillAnswer buildRefusal buildAnswer placeRefusal placeAnswer runRefusal runAnswer resizeAnswer readAnswer
+unfolding openAnswer fillAnswer buildRefusal buildAnswer placeRefusal placeAnswer runRefusal runAnswer resizeAnswer readAnswer
 two-digits (calls.opening a b o) w = first-small _ refl
 two-digits (calls.paint x y c r) w = first-small _ refl
 two-digits (calls.erase x y c r) w = first-small _ refl

@@ -9,9 +9,9 @@ use native.Mathlib.Omega.{arith}
 use lib.Dec.{eqb, leb, ltb}
 use lib.IntN.{ℤ}
 use lib.ListN.{length}
-use borrow.Author.Tests.{leb-true, ltb-true, leb-false, ltb-false, eqb-true, not-false}
+use borrow.Author.Tests.{leb-true, ltb-true, leb-false, ltb-false, eqb-true, not-true, not-false}
 use Rattle.raster.specs.Limits.{maxSide, maxQ}
-use Rattle.raster.specs.RefusalLaws.{passed, never}
+use Rattle.raster.specs.RefusalLaws.{passed, first-every}
 use Rattle.raster.specs.Tests.{and-left, and-right, or-left, or-right}
 use Rattle.session.specs.declared.Session.{Session}
 use Rattle.session.specs.State.{side, maxCount, cutterSound, mapSound, sheetSound, sound, active}
@@ -102,7 +102,7 @@ build-granted s sheet map scratch e table done =
 -- none of the rows before it gives 35
 pub before-35 : (s : Session) (sheet : List ℕ) (map scratch : List ℤ) (e : ℕ) → eqb (buildRefusal s sheet map scratch e) 35 ≡ false
 unfolding buildRefusal
-before-35 s sheet map scratch e = never 35 _ (omega arith) refl
+before-35 s sheet map scratch e = not-true _ (first-every (λ n. not (eqb n 35)) _ refl refl)
 
 -- ---- place: as far as the gate
 

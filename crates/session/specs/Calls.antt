@@ -13,7 +13,7 @@ use Rattle.raster.specs.Limits.{maxQ}
 use Rattle.raster.specs.Loop.{some}
 use Rattle.raster.specs.Map.{dxAt, dyAt, sizeAt, unmapped, hasCopper}
 use Rattle.raster.specs.Pixels.{index}
-use Rattle.raster.specs.Refusal.{firstOf}
+use Rattle.raster.specs.Refusal.{firstOf, lastOf}
 use Rattle.raster.specs.Sheet.{copperOf, filled}
 use Rattle.raster.specs.Vector.{unlabelled}
 use Rattle.scan.specs.Scan as scan
@@ -25,10 +25,6 @@ use Rattle.session.specs.Directions.{stepRight, stepDown, leaves, column
 -- done: the new value; refused: the old one
 abbrev pub onDone : {A : Type 0} → (answer : ℕ) → A → A → A
 onDone a new old = cond (eqb a 0) new old
-
--- a table that goes on with one more row, which looks at what the rows before it grant
-abbrev pub lastOf : (refusal : ℕ) → (when : Bool) → (number : ℕ) → ℕ
-lastOf refusal when number = cond (eqb refusal 0) (cond when number 0) refusal
 
 -- a slice of other than one byte a pixel; of other than two numbers a pixel; of too few numbers
 abbrev pub notSheet : Session → List ℕ → Bool
