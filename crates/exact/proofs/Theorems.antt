@@ -12,9 +12,9 @@ use native.Mathlib.Decide.{decLt}
 use native.Mathlib.Omega.{arith}
 use lib.IntN.{ℤ, pos, _-ℤ_}
 use lib.ListN.{getD}
-use Rattle.raster.specs.Distance.{apart, Copper, Clear, Near}
-use Rattle.raster.specs.Gate.{passes}
-use Rattle.raster.specs.GateLaws.{passed-above, failed-within}
+use Rattle.raster.specs.Distance.{apart, Copper, Clear}
+use Rattle.raster.specs.Gate.{passes, NearBy}
+use Rattle.raster.specs.GateLaws.{passed-above, failed-near}
 use Rattle.raster.specs.Limits.{maxSide}
 use Rattle.raster.specs.Map.{dxAt, dyAt}
 use Rattle.raster.specs.MapLaws.{vectors-dx, vectors-dy}
@@ -176,7 +176,5 @@ module _ (copper : Mask) (w h : ℕ) (wide : w ≤ maxSide) (tall : h ≤ maxSid
   pub gate-safe : (q : ℕ) → passes gate (size dx dy) q ≡ true → Clear copper w h x y q
   gate-safe q p i j c = passed-above gate (size dx dy) q (apart x y i j) (omega (arith, least i j c)) p
 
-  pub gate-fair : (q : ℕ) → unlabelled dx dy ≡ false → passes gate (size dx dy) q ≡ false → Near copper w h x y q
-  gate-fair q l p =
-      let t = ends-on-copper l in
-      record { column = t .column; row = t .row; copper = t .metal; within = omega (arith, ends-size (t .ends), failed-within gate (size dx dy) q p) }
+  pub gate-fair : (q : ℕ) → unlabelled dx dy ≡ false → passes gate (size dx dy) q ≡ false → NearBy gate copper w h x y q
+  gate-fair q l p = failed-near gate (ends-on-copper l) p

@@ -5,6 +5,7 @@ use mathlib.Core.Bool.{Bool, true, false, _||_, true≢false}
 use mathlib.Core.List.{List}
 use Prim.Native.Nat.{ℕ, zero, suc, _*_, _<_, _≤_}
 use native.Mathlib.Omega.{arith}
+use lib.Dec.{eqb}
 use lib.IntN.{ℤ}
 use lib.ListN.{length}
 use borrow.Author.Tests.{le-leb}
@@ -38,36 +39,30 @@ module _ (s : Session) (wide : s .width ≤ maxSide) (tall : s .height ≤ maxSi
     abbrev dyOf : (engine : ℕ) → ℤ
     dyOf e = dyAt (mapOf s sheet e) (index (s .width) x y)
 
-    promised : (e : ℕ) → 1 ≤ e → e ≤ 3 → Promise copper (s .width) (s .height) x y (dxOf e) (dyOf e) (gateOf e)
-    promised zero l k = absurd (omega arith)
-    promised (suc zero) l k = record {
-      labelled = exact.with-copper copper (s .width) (s .height) wide tall x y across down;
-      safe = exact.gate-safe copper (s .width) (s .height) wide tall x y across down;
-      fair = λ q u p.
-          let n = exact.gate-fair copper (s .width) (s .height) wide tall x y across down q u p in
-          record { column = n .column; row = n .row; copper = n .copper; within = omega (arith, n .within) };
-    }
-    promised (suc (suc zero)) l k = record {
-      labelled = scan.with-copper (s .width) (s .height) wide tall sheet whole true x y across down;
-      safe = scan.gate-safe (s .width) (s .height) wide tall sheet whole true x y across down;
-      fair = scan.gate-fair (s .width) (s .height) wide tall sheet whole true x y across down;
-    }
-    promised (suc (suc (suc zero))) l k = record {
-      labelled = scan.with-copper (s .width) (s .height) wide tall sheet whole false x y across down;
-      safe = scan.gate-safe (s .width) (s .height) wide tall sheet whole false x y across down;
-      fair = scan.gate-fair (s .width) (s .height) wide tall sheet whole false x y across down;
-    }
-    promised (suc (suc (suc (suc e)))) l k = absurd (omega arith)
+    promised : (e : ℕ) → Promise copper (s .width) (s .height) x y (dxOf e) (dyOf e) (gateOf e)
+    promised e = go (eqb e 1) refl
+      where
+        go : (t : Bool) → eqb e 1 ≡ t → Promise copper (s .width) (s .height) x y (dxOf e) (dyOf e) (gateOf e)
+        go true one = rw one (record {
+          labelled = exact.with-copper copper (s .width) (s .height) wide tall x y across down;
+          safe = exact.gate-safe copper (s .width) (s .height) wide tall x y across down;
+          fair = exact.gate-fair copper (s .width) (s .height) wide tall x y across down;
+        })
+        go false other = rw other (record {
+          labelled = scan.with-copper (s .width) (s .height) wide tall sheet whole (eqb e 2) x y across down;
+          safe = scan.gate-safe (s .width) (s .height) wide tall sheet whole (eqb e 2) x y across down;
+          fair = scan.gate-fair (s .width) (s .height) wide tall sheet whole (eqb e 2) x y across down;
+        })
 
-    module _ (e : ℕ) (low : 1 ≤ e) (high : e ≤ 3) (q : ℕ) where
+    module _ (e q : ℕ) where
       -- a cutter that passes has all copper above q
       pub gate-clear : passesAt e (mapOf s sheet e) (index (s .width) x y) q ≡ true → Clear copper (s .width) (s .height) x y q
       unfolding passesAt
       gate-clear = go (unlabelled (dxOf e) (dyOf e)) refl
         where
           go : (t : Bool) → unlabelled (dxOf e) (dyOf e) ≡ t → t || passes (gateOf e) (size (dxOf e) (dyOf e)) q ≡ true → Clear copper (s .width) (s .height) x y q
-          go true u p = λ i j c. absurd (true≢false (sym u ∙ promised e low high .labelled i j c))
-          go false u p = promised e low high .safe q p
+          go true u p = λ i j c. absurd (true≢false (sym u ∙ promised e .labelled i j c))
+          go false u p = promised e .safe q p
 
       -- one that does not has some within the gate's fraction of q
       pub gate-close : passesAt e (mapOf s sheet e) (index (s .width) x y) q ≡ false → NearBy (gateOf e) copper (s .width) (s .height) x y q
@@ -76,7 +71,7 @@ module _ (s : Session) (wide : s .width ≤ maxSide) (tall : s .height ≤ maxSi
         where
           go : (t : Bool) → unlabelled (dxOf e) (dyOf e) ≡ t → t || passes (gateOf e) (size (dxOf e) (dyOf e)) q ≡ false → NearBy (gateOf e) copper (s .width) (s .height) x y q
           go true u p = absurd (true≢false p)
-          go false u p = promised e low high .fair q u p
+          go false u p = promised e .fair q u p
 
 -- the gate's fraction is the claim's
 pub in-fraction : (e a q : ℕ) → 1 ≤ e → e ≤ 3 → gateOf e .den * a ≤ gateOf e .num * q → within e a q ≡ true

@@ -67,7 +67,7 @@ module _ {b : Board} {w : World} (inv : Inv b w) where
         → Clear (copperOf (w .sheet) (w .session .width)) (w .session .width) (w .session .height) x y q
     passed-clear p =
         let m = inv .built current in
-        gate-clear (w .session) (limits .wide) (limits .high) (w .sheet) (m .whole) x y across down (w .session .engine) (engine .0) (engine .1) q
+        gate-clear (w .session) (limits .wide) (limits .high) (w .sheet) (m .whole) x y across down (w .session .engine) q
         (rw (m .map-is) at p)
 
     -- it fails: some copper of the board is within the engine's fraction of q
@@ -75,7 +75,7 @@ module _ {b : Board} {w : World} (inv : Inv b w) where
     failed-close p =
         let m = inv .built current in
         let n =
-        gate-close (w .session) (limits .wide) (limits .high) (w .sheet) (m .whole) x y across down (w .session .engine) (engine .0) (engine .1) q
+        gate-close (w .session) (limits .wide) (limits .high) (w .sheet) (m .whole) x y across down (w .session .engine) q
         (rw (m .map-is) at p)
         in
         record {

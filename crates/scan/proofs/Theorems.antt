@@ -25,7 +25,7 @@ use Rattle.raster.specs.Vector.{mark, size, unlabelled, Target}
 use Rattle.raster.specs.VectorLaws.{ends-here, ends-size}
 use Rattle.raster.specs.Map.{dxAt, dyAt}
 use Rattle.raster.specs.Gate.{passes, NearBy}
-use Rattle.raster.specs.GateLaws.{passed-above, failed-within}
+use Rattle.raster.specs.GateLaws.{passed-above, failed-near}
 use Rattle.raster.specs.Loop.{ascend}
 use Rattle.scan.specs.Scan.{State, state, seed, seeds, downRow, scanned, gate}
 use Rattle.scan.proofs.Seeds.{seeds-length, seeds-dx, seeds-dy}
@@ -164,6 +164,4 @@ module _ (w h : ℕ) (wide : w ≤ maxSide) (tall : h ≤ maxSide) (sheet : List
 
       -- it fails only where some copper is within that fraction of q
       pub gate-fair : (q : ℕ) → unlabelled dx dy ≡ false → passes (gate corners) (size dx dy) q ≡ false → NearBy (gate corners) copper w h x y q
-      gate-fair q l p =
-          let t = ends-on-copper l in
-          record { column = t .column; row = t .row; copper = t .metal; within = rw (← ends-size (t .ends)) (failed-within (gate corners) (size dx dy) q p) }
+      gate-fair q l p = failed-near (gate corners) (ends-on-copper l) p
