@@ -8,7 +8,7 @@ use lib.IntN.{ℤ, pos}
 use lib.ListN.{length, getD, set, replicate}
 use Rattle.raster.specs.Loop.{some}
 use Rattle.raster.specs.Pixels.{tabulate}
-use Rattle.raster.specs.Vector.{mark, size}
+use Rattle.raster.specs.Vector.{mark, size, unlabelled}
 
 -- pixel p lies in the map m
 abbrev pub Inside : ℕ → List ℤ → Type 0
@@ -24,6 +24,10 @@ dyAt m p = getD m (2 * p + 1) (pos 0)
 -- the size at pixel p
 abbrev pub sizeAt : List ℤ → ℕ → ℕ
 sizeAt m p = size (dxAt m p) (dyAt m p)
+
+-- pixel p has no vector
+abbrev pub unlabelledAt : List ℤ → ℕ → Bool
+unlabelledAt m p = unlabelled (dxAt m p) (dyAt m p)
 
 -- m with the vector (dx, dy) at pixel p
 unfoldable pub put : ℕ → ℤ → ℤ → List ℤ → List ℤ

@@ -5,7 +5,7 @@ ghost use Prim.Native.Nat.{_+_, _*_, _≤_};
 ghost use lib.IntN.{natAbs, _+ℤ_};
 ghost use lib.ListN.{length, replicate};
 ghost use Rattle.raster.specs.Vector.{Short, Wide, Step, size, unlabelled, inRange};
-ghost use Rattle.raster.specs.Map.{Inside, dxAt, dyAt, sizeAt, put, unmapped, hasCopper};
+ghost use Rattle.raster.specs.Map.{Inside, dxAt, dyAt, sizeAt, unlabelledAt, put, unmapped, hasCopper};
 ghost use Rattle.raster.specs.Sheet.{bare, spanned, filled};
 
 pub const MARK: i16 = -32768;
@@ -65,18 +65,18 @@ pub fn dy_at(map: &[i16], p: usize) -> i32
     map[2 * p + 1] as i32
 }
 
-// The size at pixel p.
+// The size at pixel p, at most 2^31.
 pub fn size_at(map: &[i16], p: usize) -> u32
     requires { ⌜ Inside p (now map) ⌝ }
-    ensures { λ r. ⌜ r ≡ sizeAt (now (map .entry)) p ⌝ }
+    ensures { λ r. ⌜ (r ≡ sizeAt (now (map .entry)) p) × (r ≤ 2147483648) ⌝ }
 {
     size_of(dx_at(map, p), dy_at(map, p))
 }
 
-// Whether pixel p is unlabelled. No pixel's size is above 2^31.
+// Whether pixel p is unlabelled.
 pub fn unlabelled_at(map: &[i16], p: usize) -> bool
     requires { ⌜ Inside p (now map) ⌝ }
-    ensures { λ r. ⌜ (r ≡ unlabelled (dxAt (now (map .entry)) p) (dyAt (now (map .entry)) p)) × (sizeAt (now (map .entry)) p ≤ 2147483648) ⌝ }
+    ensures { λ r. ⌜ r ≡ unlabelledAt (now (map .entry)) p ⌝ }
 {
     is_unlabelled(dx_at(map, p), dy_at(map, p))
 }

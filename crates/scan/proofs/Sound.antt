@@ -14,7 +14,7 @@ use Rattle.raster.specs.Pixels.{Mask, index}
 use Rattle.raster.specs.PixelsLaws.{index-inside, index-one}
 use Rattle.raster.specs.Vector.{unlabelled, replaces, Ends, Target}
 use Rattle.raster.specs.VectorLaws.{ends-step, target-range}
-use Rattle.raster.specs.Map.{Inside, dxAt, dyAt, put}
+use Rattle.raster.specs.Map.{Inside, dxAt, dyAt, unlabelledAt, put}
 use Rattle.raster.specs.MapLaws.{put-length, put-dx, put-dy, put-dx-other, put-dy-other}
 use Rattle.raster.specs.Tests.{and-left, and-right, cond-ind}
 use Rattle.scan.specs.Candidate.{allowed, gives, overs, offer, relax}
@@ -33,7 +33,7 @@ module _ (copper : Mask) (w h : ℕ) where
   -- the vector at every labelled pixel does
   pub record Sound (m : List ℤ) : Type 0 where
     pub long : length m ≡ 2 * (h * w)
-    pub target : (x y : ℕ) → x < w → y < h → unlabelled (dxAt m (index w x y)) (dyAt m (index w x y)) ≡ false
+    pub target : (x y : ℕ) → x < w → y < h → unlabelledAt m (index w x y) ≡ false
         → Target copper w h x y (dxAt m (index w x y)) (dyAt m (index w x y))
 
   -- (a, b) is a pixel of the sheet and stands at (ox, oy) from the pixel (x, y)
@@ -78,7 +78,7 @@ module _ (copper : Mask) (w h : ℕ) where
 
       -- a pixel after the candidate is written: the pixel itself, or another
       written : unlabelled nx ny ≡ false → (i j : ℕ) → i < w → j < h → Dec (index w i j ≡ index w x y)
-          → unlabelled (dxAt new (index w i j)) (dyAt new (index w i j)) ≡ false → Target copper w h i j (dxAt new (index w i j)) (dyAt new (index w i j))
+          → unlabelledAt new (index w i j) ≡ false → Target copper w h i j (dxAt new (index w i j)) (dyAt new (index w i j))
       written n i j k l (yes e) u =
           let p = index-one w i j x y k (hop .across) e in
           rw (p .0, p .1, put-dx (index w x y) (nx +ℤ ox) (ny +ℤ oy) m hop-inside, put-dy (index w x y) (nx +ℤ ox) (ny +ℤ oy) m hop-inside) (moved n)

@@ -23,7 +23,7 @@ use Rattle.raster.specs.DistanceLaws.{gap-up, gap-swap}
 use Rattle.raster.specs.Sheet.{copperOf}
 use Rattle.raster.specs.Vector.{mark, size, unlabelled, Target}
 use Rattle.raster.specs.VectorLaws.{ends-here, ends-size}
-use Rattle.raster.specs.Map.{dxAt, dyAt}
+use Rattle.raster.specs.Map.{dxAt, dyAt, unlabelledAt}
 use Rattle.raster.specs.Gate.{passes, NearBy}
 use Rattle.raster.specs.GateLaws.{passed-above, failed-near}
 use Rattle.raster.specs.Loop.{ascend}
@@ -50,7 +50,7 @@ module _ (w h : ℕ) (wide : w ≤ maxSide) (tall : h ≤ maxSide) (sheet : List
     start-dy : dyAt (seeds sheet) (index w x y) ≡ seed (getD sheet (index w x y) 0)
     start-dy = seeds-dy sheet (index w x y) (omega (arith, index-inside w x y across h down))
 
-    start-target : unlabelled (dxAt (seeds sheet) (index w x y)) (dyAt (seeds sheet) (index w x y)) ≡ false
+    start-target : unlabelledAt (seeds sheet) (index w x y) ≡ false
         → Target copper w h x y (dxAt (seeds sheet) (index w x y)) (dyAt (seeds sheet) (index w x y))
     unfolding copperOf
     start-target u = rw (start-dx, start-dy) (go (eqb (getD sheet (index w x y) 0) 0) refl (rw (start-dx, start-dy) at u))

@@ -11,11 +11,10 @@ use lib.ListN.{length, take, drop}
 use Rattle.raster.specs.Gate.{Gate, passes}
 use Rattle.raster.specs.Limits.{maxQ}
 use Rattle.raster.specs.Loop.{some}
-use Rattle.raster.specs.Map.{dxAt, dyAt, sizeAt, unmapped, hasCopper}
+use Rattle.raster.specs.Map.{sizeAt, unlabelledAt, unmapped, hasCopper}
 use Rattle.raster.specs.Pixels.{index}
 use Rattle.raster.specs.Refusal.{firstOf, lastOf}
 use Rattle.raster.specs.Sheet.{copperOf, filled}
-use Rattle.raster.specs.Vector.{unlabelled}
 use Rattle.scan.specs.Scan as scan
 use Rattle.exact.specs.Nearest as exact
 use Rattle.session.specs.declared.Session.{Session}
@@ -91,7 +90,7 @@ gateOf e = cond (eqb e 1) exact.gate (scan.gate (eqb e 2))
 
 -- pixel p of the map passes a cutter of q: it is unlabelled, or its size passes the engine's gate
 unfoldable pub passesAt : (engine : ℕ) → List ℤ → (p q : ℕ) → Bool
-passesAt e map p q = unlabelled (dxAt map p) (dyAt map p) || passes (gateOf e) (sizeAt map p) q
+passesAt e map p q = unlabelledAt map p || passes (gateOf e) (sizeAt map p) q
 
 unfoldable pub placeRefusal : Session → List ℤ → (x y q : ℕ) → ℕ
 placeRefusal s map x y q = firstOf

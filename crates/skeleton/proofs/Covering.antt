@@ -14,11 +14,10 @@ use Rattle.raster.proofs.Writing.{set-more}
 use Rattle.raster.specs.Distance.{gap, apart}
 use Rattle.raster.specs.Loop.{some}
 use Rattle.raster.specs.LoopLaws.{some-found, some-true}
-use Rattle.raster.specs.Map.{dxAt, dyAt, sizeAt}
+use Rattle.raster.specs.Map.{sizeAt, unlabelledAt}
 use Rattle.raster.specs.Pixels.{index}
 use Rattle.raster.specs.Sheet.{copperOf}
 use Rattle.raster.specs.Tests.{and-left, and-right, same}
-use Rattle.raster.specs.Vector.{unlabelled}
 use Rattle.envelope.specs.Best.{priceOf, price, Site, bestSite}
 use Rattle.envelope.specs.BestLaws.{Least, best-found}
 use Rattle.skeleton.specs.Skeleton.{covers}
@@ -44,7 +43,7 @@ cost-range a b v s l = rw (site-open a b v l .1) s
 module _ {m : List ℤ} {marks : List ℕ} {base w : ℕ} {cost : List ℕ} where
   pub priced-range : Priced m marks base w cost → Costs cost w
   priced-range p k l i =
-      rw (p .costs k l) (cost-range (eqb (getD marks (base + k) 0) 0) (unlabelled (dxAt m (base + k)) (dyAt m (base + k))) _ (omega arith) (rw (p .costs k l) at i))
+      rw (p .costs k l) (cost-range (eqb (getD marks (base + k) 0) 0) (unlabelledAt m (base + k)) _ (omega arith) (rw (p .costs k l) at i))
 
 -- the costs of the first k columns
 module _ {m : List ℤ} {marks : List ℕ} {base : ℕ} where
@@ -67,7 +66,7 @@ module _ {m : List ℤ} {w : ℕ} {marks cost : List ℕ} (h y : ℕ) (p : Price
   from-cover i l e =
       let q = index w i y in
       let a = eqb (getD marks q 0) 0 in
-      let b = unlabelled (dxAt m q) (dyAt m q) in
+      let b = unlabelledAt m q in
       let c = p .costs i l ∙ open-cost a b (2147483648 - sizeAt m q) (and-left (not a && not b) _ e) in
       let f = ltb-true (apart x z i y) (sizeAt m q) (and-right (not a && not b) _ e) in
       let s : Site cost i = omega arith in
@@ -78,7 +77,7 @@ module _ {m : List ℤ} {w : ℕ} {marks cost : List ℕ} (h y : ℕ) (p : Price
   unfolding copperOf apart priceOf
   to-cover i l s f =
       let q = index w i y in
-      let o = site-open (eqb (getD marks q 0) 0) (unlabelled (dxAt m q) (dyAt m q)) (2147483648 - sizeAt m q) (rw (p .costs i l) at s) in
+      let o = site-open (eqb (getD marks q 0) 0) (unlabelledAt m q) (2147483648 - sizeAt m q) (rw (p .costs i l) at s) in
       let c = p .costs i l ∙ o .1 in
       rw (o .0) (lt-ltb (apart x z i y) (sizeAt m q) (omega (arith, p .sizes i l s)))
 

@@ -11,9 +11,8 @@ use lib.IntN.{ℤ}
 use borrow.Author.Tests.{ne-eqb, eqb-false}
 use Rattle.raster.specs.Distance.{gap}
 use Rattle.raster.specs.Loop.{some}
-use Rattle.raster.specs.Map.{dxAt, dyAt, sizeAt}
+use Rattle.raster.specs.Map.{sizeAt, unlabelledAt}
 use Rattle.raster.specs.Pixels.{index}
-use Rattle.raster.specs.Vector.{unlabelled}
 use Rattle.skeleton.specs.Table.{g, least}
 use Rattle.skeleton.specs.Skeleton.{takes, within, takenBy, removed, kept}
 use Rattle.skeleton.specs.Bands.{counted, takenAt, onSheet, Band, takenIn, keptIn}
@@ -84,7 +83,7 @@ module _ (m : List ℤ) (w h x y : ℕ) where
   -- a pixel is kept as the bands say
   pub kept-is : {above row below : List ℕ} → x < w → y < h → Band m w h y above → Band m w h (y + 1) row → Band m w h (y + 1 + 1) below
       → keptIn above row below x ≡ cond (kept m w h x y) 1 0
-  kept-is {above} {row} {below} l k a r b = rw (r .sizes y refl k .entry x l) (go (unlabelled (dxAt m (index w x y)) (dyAt m (index w x y))))
+  kept-is {above} {row} {below} l k a r b = rw (r .sizes y refl k .entry x l) (go (unlabelledAt m (index w x y)))
     where
       n : ℕ
       n = sizeAt m (index w x y)

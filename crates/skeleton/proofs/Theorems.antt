@@ -14,12 +14,11 @@ use Rattle.raster.specs.Distance.{apart, Copper}
 use Rattle.raster.specs.DistanceLaws.{apart-self, apart-swap, apart-zero}
 use Rattle.raster.specs.Limits.{maxSide}
 use Rattle.raster.specs.LoopLaws.{some-found, some-true}
-use Rattle.raster.specs.Map.{dxAt, dyAt, sizeAt}
+use Rattle.raster.specs.Map.{sizeAt, unlabelledAt}
 use Rattle.raster.specs.Pixels.{Mask, index, pixels}
 use Rattle.raster.specs.PixelsLaws.{pixels-at, pixels-is, pixels-length}
 use Rattle.raster.specs.Sheet.{copperOf}
 use Rattle.raster.specs.Tests.{and-right}
-use Rattle.raster.specs.Vector.{unlabelled}
 use Rattle.exact.specs.Nearest.{exactMap}
 use Rattle.exact.proofs.Theorems.{least, with-copper, ends-on-copper}
 use Rattle.raster.specs.VectorLaws.{ends-size}
@@ -43,7 +42,7 @@ module _ (copper : Mask) (w h : ℕ) (wide : w ≤ maxSide) (tall : h ≤ maxSid
   disk-bare i j x y a b c = least copper w h wide tall i j a b x y c
 
   module _ (ci cj : ℕ) (some-copper : Copper copper w h ci cj) where
-    labelled : (x y : ℕ) → x < w → y < h → unlabelled (dxAt m (index w x y)) (dyAt m (index w x y)) ≡ false
+    labelled : (x y : ℕ) → x < w → y < h → unlabelledAt m (index w x y) ≡ false
     labelled x y a b = with-copper copper w h wide tall x y a b ci cj some-copper
 
     -- a bare pixel has a size above 0

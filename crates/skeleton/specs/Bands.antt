@@ -7,9 +7,8 @@ use Prim.Native.Nat.{ℕ, _+_, _-_, _*_, _<_, _≤_}
 use lib.Dec.{eqb, leb}
 use lib.IntN.{ℤ}
 use lib.ListN.{length, getD}
-use Rattle.raster.specs.Map.{dxAt, dyAt, sizeAt}
+use Rattle.raster.specs.Map.{sizeAt, unlabelledAt}
 use Rattle.raster.specs.Pixels.{index}
-use Rattle.raster.specs.Vector.{unlabelled}
 use Rattle.skeleton.specs.Table.{g}
 use Rattle.skeleton.specs.Skeleton.{within}
 
@@ -24,7 +23,7 @@ counted n = cond (leb 1 n && leb n 400) n 1
 
 -- the size of pixel p, 0 if it is unlabelled; and the size that it takes off at its sides or corners
 abbrev pub ownAt : (m : List ℤ) (p : ℕ) → ℕ
-ownAt m p = cond (unlabelled (dxAt m p) (dyAt m p)) 0 (sizeAt m p)
+ownAt m p = cond (unlabelledAt m p) 0 (sizeAt m p)
 
 abbrev pub takenAt : (corner : Bool) (m : List ℤ) (p : ℕ) → ℕ
 takenAt corner m p = g corner (counted (sizeAt m p))

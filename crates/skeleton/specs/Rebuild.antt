@@ -8,9 +8,8 @@ use lib.Dec.{eqb, ltb}
 use lib.IntN.{ℤ}
 use lib.ListN.{length, getD}
 use Rattle.raster.specs.Loop.{some}
-use Rattle.raster.specs.Map.{dxAt, dyAt, sizeAt}
+use Rattle.raster.specs.Map.{sizeAt, unlabelledAt}
 use Rattle.raster.specs.Pixels.{index}
-use Rattle.raster.specs.Vector.{unlabelled}
 use Rattle.envelope.specs.Best.{Site, priceOf}
 use Rattle.skeleton.specs.Skeleton.{covers}
 
@@ -26,7 +25,7 @@ line m w h marks x y j = some w (λ i. covers m w h marks x y i j)
 
 -- 2^31 less the size of a marked, labelled pixel; any other pixel is no site
 abbrev pub costOf : (m : List ℤ) (marks : List ℕ) (p : ℕ) → ℕ
-costOf m marks p = cond (eqb (getD marks p 0) 0) 4294967295 (cond (unlabelled (dxAt m p) (dyAt m p)) 4294967295 (2147483648 - sizeAt m p))
+costOf m marks p = cond (eqb (getD marks p 0) 0) 4294967295 (cond (unlabelledAt m p) 4294967295 (2147483648 - sizeAt m p))
 
 -- the costs of the row whose first pixel is at base, and sizes that can be taken from 2^31
 pub record Priced (m : List ℤ) (marks : List ℕ) (base w : ℕ) (cost : List ℕ) : Type 0 where

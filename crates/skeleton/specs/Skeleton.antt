@@ -7,10 +7,9 @@ use lib.Dec.{eqb, leb, ltb}
 use lib.IntN.{ℤ}
 use Rattle.raster.specs.Distance.{apart}
 use Rattle.raster.specs.Loop.{some}
-use Rattle.raster.specs.Map.{dxAt, dyAt, sizeAt}
+use Rattle.raster.specs.Map.{sizeAt, unlabelledAt}
 use Rattle.raster.specs.Pixels.{Mask, index, pixels}
 use Rattle.raster.specs.Sheet.{copperOf}
-use Rattle.raster.specs.Vector.{unlabelled}
 use Rattle.skeleton.specs.Table.{g}
 
 -- a neighbour of size n, from 1 to 400, takes off a pixel of size s that its table gives
@@ -33,7 +32,7 @@ module _ (m : List ℤ) (w h : ℕ) where
 
   -- a bare pixel is kept unless some neighbour takes it off; an unlabelled one is not kept
   abbrev pub kept : Mask
-  kept x y = (not (unlabelled (dxAt m (index w x y)) (dyAt m (index w x y))) && not (eqb (sizeAt m (index w x y)) 0)) && not (removed x y)
+  kept x y = (not (unlabelledAt m (index w x y)) && not (eqb (sizeAt m (index w x y)) 0)) && not (removed x y)
 
   unfoldable pub skeletonOf : List ℕ
   skeletonOf = pixels w h (λ x y. cond (kept x y) 1 0)
@@ -41,7 +40,7 @@ module _ (m : List ℤ) (w h : ℕ) where
   -- the marked pixel (i, j) covers (x, y): their squared distance is below its size; an unlabelled one covers nothing
   abbrev pub covers : (marks : List ℕ) (x y i j : ℕ) → Bool
   covers marks x y i j =
-      (copperOf marks w i j && not (unlabelled (dxAt m (index w i j)) (dyAt m (index w i j)))) && ltb (apart x y i j) (sizeAt m (index w i j))
+      (copperOf marks w i j && not (unlabelledAt m (index w i j))) && ltb (apart x y i j) (sizeAt m (index w i j))
 
   unfoldable pub covered : (marks : List ℕ) → Mask
   covered marks x y = some w (λ i. some h (λ j. covers marks x y i j))

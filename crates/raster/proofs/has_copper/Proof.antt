@@ -24,7 +24,7 @@ loop-holds c = (refl, search needs)
 
 loop-again : tie.Need-loop-again Inv-loop μ-loop
 unfolding hasCopper some
-loop-again c = (rw add-one (ap₂ (λ (a : ℕ) (b : Bool). eqb a 0 || b) (c .size-at .ensures) (c .before .before .loop .inv .0)), omega arith)
+loop-again c = (rw add-one (ap₂ (λ (a : ℕ) (b : Bool). eqb a 0 || b) (c .size-at .ensures .0) (c .before .before .loop .inv .0)), omega arith)
 
 returns : tie.Need-returns Inv-loop μ-loop
 returns c =

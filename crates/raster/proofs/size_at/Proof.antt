@@ -1,13 +1,21 @@
--- `raster::size_at` meets its contract, by those of the calls: what is read fits.
+-- `raster::size_at` meets its contract, by those of the calls: what is read fits, and two squares of it are at most 2^31.
 -- Assumes nothing.
+use Prim.Native.Nat.{_≤_}
+use native.Mathlib.Nat.{mul-le-mul}
 use native.Mathlib.Omega.{arith}
+use lib.IntN.{ℤ}
 use mir.Syntax.{w32}
 use mir.Val.{SFits}
 use mir.ValLaws.{toZ-ofZ}
 use borrow.Author.Needs.{needs}
+use Rattle.raster.specs.Vector.{Short, size}
 use Rattle.raster.proofs.Signed.{short-wide}
 use Rattle.raster.proofs.size_at.Statement.{statement}
 use Rattle.raster.proofs.size_at.Tie as tie
+
+size-most : (dx dy : ℤ) → Short dx → Short dy → size dx dy ≤ 2147483648
+unfolding size
+size-most dx dy a b = let f = short-wide dx a in let g = short-wide dy b in omega (arith, mul-le-mul f f, mul-le-mul g g)
 
 dx-fits : (c : tie.After-dy-at) → SFits w32 (c .before .dx-at .result)
 dx-fits c = record { sfits = c .before .dx-at .ok }
@@ -23,7 +31,9 @@ size-of-requires c κs =
 returns : tie.Need-returns
 returns c =
     let d = c .before in
-    simp (d .before .dx-at .ensures .0, d .dy-at .ensures .0) at (simp (toZ-ofZ, dx-fits d, dy-fits d) at (c .size-of .ensures))
+    let x = d .before .dx-at in
+    let e = simp (toZ-ofZ, dx-fits d, dy-fits d) at (c .size-of .ensures) in
+    (simp (x .ensures .0, d .dy-at .ensures .0) at e, rw e (size-most _ _ (x .ensures .1) (d .dy-at .ensures .1)))
 
 pub size-at-spec : {M : Type 1} → statement M
 size-at-spec = tie.close (tie.spec (λ c κs. search needs) (λ c κs. search needs) size-of-requires returns)

@@ -17,7 +17,7 @@ returns-2 c =
     let u = c .before in
     let n = u .before in
     let s = n .before .before .before .args in
-    (rw (ne-eqb (getD (s .marks .now) (s .p) 0) 0 (n .if1 .left), ← u .unlabelled-at .ensures .0, c .if2 .taken), λ l. absurd (omega arith))
+    (rw (ne-eqb (getD (s .marks .now) (s .p) 0) 0 (n .if1 .left), ← u .unlabelled-at .ensures, c .if2 .taken), λ l. absurd (omega arith))
 
 returns-3 : tie.Need-returns-3
 returns-3 c =
@@ -25,8 +25,8 @@ returns-3 c =
     let u = l .before in
     let n = u .before in
     let s = n .before .before .before .args in (
-      rw (ne-eqb (getD (s .marks .now) (s .p) 0) 0 (n .if1 .left), ← u .unlabelled-at .ensures .0, l .if2 .left, ← c .size-at .ensures),
-      λ k. u .unlabelled-at .ensures .1,
+      rw (ne-eqb (getD (s .marks .now) (s .p) 0) 0 (n .if1 .left), ← u .unlabelled-at .ensures, l .if2 .left, ← c .size-at .ensures .0),
+      λ k. omega (arith, c .size-at .ensures),
     )
 
 pub cost-of-spec : {M : Type 1} → statement M
@@ -38,5 +38,5 @@ cost-of-spec =
     (λ c κs. search needs)
     returns-2
     (λ c κs. search needs)
-    (λ c. omega (arith, c .size-at .ensures, c .before .before .unlabelled-at .ensures .1))
+    (λ c. omega (arith, c .size-at .ensures))
     returns-3)

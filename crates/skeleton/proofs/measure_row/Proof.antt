@@ -27,8 +27,8 @@ loop-again c =
     let l = n .before .before in
     let p = l .before .before .before .before .pre in
     let k = n .size-at .result in (
-      measured-more (l .loop .inv .0) (omega arith) (p .0 .1) (o .own-size .ensures ∙ rw (u .unlabelled-at .ensures .0, n .size-at .ensures))
-          (s .taken-off .ensures ∙ listed-at (p .1 .0) k ∙ rw (n .size-at .ensures)) (c .taken-off2 .ensures ∙ listed-at (p .1 .1 .0) k ∙ rw (n .size-at .ensures)),
+      measured-more (l .loop .inv .0) (omega arith) (p .0 .1) (o .own-size .ensures ∙ rw (u .unlabelled-at .ensures, n .size-at .ensures .0))
+          (s .taken-off .ensures ∙ listed-at (p .1 .0) k ∙ rw (n .size-at .ensures .0)) (c .taken-off2 .ensures ∙ listed-at (p .1 .1 .0) k ∙ rw (n .size-at .ensures .0)),
       omega arith,
     )
 
