@@ -10,6 +10,7 @@ use lib.Dec.{eqb, leb}
 use lib.ListN.{length, getD, take, drop, length-drop, take-append-drop}
 use lib.Seq.{drop-cons, drop-drop, getD-drop, take-add}
 use borrow.Author.Tests.{eqb-true, eqb-false, leb-true}
+use Rattle.raster.specs.PixelsLaws.{nothing}
 use Rattle.raster.specs.Tests.{and-left, and-right}
 use Rattle.job.specs.Format.{Order, word, long, sizeOf, sizeHere, orderHere, splits, ordersIn, isJob, ordersOf, wordBytes, longBytes, encode, encodeAll}
 use Rattle.job.specs.FormatLaws.{is-opening, is-paint, is-erase, is-build, is-place, is-run, is-lift, is-expand, is-shrink}
@@ -117,10 +118,6 @@ front b bytes some =
     let h = here b refl some in
     let s = size-said b some in
     rw s (written-record b bytes (rw (h .said) (h .size)) (word b 2) refl (h .said) (h .known .0) (h .known .1))
-
-nothing : (b : List ℕ) → length b ≡ 0 → [] ≡ b
-nothing [] e = refl
-nothing (x ∷ b) e = absurd (omega arith)
 
 written-again : (n : ℕ) (b : List ℕ) → Bytes b → splits n b ≡ true → encodeAll (ordersIn n b) ≡ b
 unfolding splits ordersIn encodeAll

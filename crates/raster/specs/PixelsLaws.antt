@@ -1,7 +1,7 @@
 -- The laws of pixels and lists: where a pixel stands, and what a list that is given pixel by pixel holds.
 -- Assumes nothing.
 use mathlib.Core.Path.{_≡_, refl, sym, ap, _∙_}
-use mathlib.Core.List.{List}
+use mathlib.Core.List.{List, [], _∷_}
 use Prim.Native.Nat.{ℕ, zero, suc, _*_, _/_, _%_, _<_}
 use native.Mathlib.Nat.{le-of-suc-le-suc, not-suc-le-zero, mul-le-mul-right, mul-add-mod-self-right, mul-add-div-right, mod-eq-of-lt, div-eq-of-lt, mod-lt, div-lt-iff-lt-mul, div-add-mod'}
 use native.Mathlib.Omega.{arith}
@@ -50,6 +50,11 @@ module _ (w h p : ℕ) (inside : p < h * w) where
 -- ---- what a list given by its elements holds
 
 module _ {A : Type 0} where
+  -- a list of no elements
+  pub nothing : (s : List A) → length s ≡ 0 → [] ≡ s
+  nothing [] e = refl
+  nothing (x ∷ s) e = absurd (omega arith)
+
   pub tabulate-length : (n : ℕ) (f : ℕ → A) → length (tabulate n f) ≡ n
   unfolding tabulate
   tabulate-length zero f = refl

@@ -2,7 +2,7 @@
 -- Assumes nothing.
 use mathlib.Core.Path.{_≡_, refl, sym, ap, _∙_}
 use mathlib.Core.Bool.{Bool, true, false, cond}
-use mathlib.Core.List.{List, [], _∷_}
+use mathlib.Core.List.{List, []}
 use Prim.Native.Nat.{ℕ, min, _*_, _-_, _≤_}
 use native.Mathlib.Nat.{mul-le-mul, mul-le-mul-right}
 use native.Mathlib.Omega.{arith}
@@ -11,6 +11,7 @@ use lib.IntN.{ℤ}
 use lib.ListN.{length, take, drop, length-take, length-drop}
 use borrow.Author.Needs.{needs}
 use borrow.Author.Tests.{eqb-true, ltb-true}
+use Rattle.raster.specs.PixelsLaws.{nothing}
 use Rattle.raster.specs.Tests.{and-left, and-right}
 use Rattle.session.specs.declared.Session.{Session}
 use Rattle.session.specs.State.{active}
@@ -18,10 +19,6 @@ use Rattle.session.specs.Calls.{hasRow, rowOf}
 use Rattle.session.proofs.Granted.{active-limits}
 use Rattle.abi.proofs.abi_session_row.Statement.{statement}
 use Rattle.abi.proofs.abi_session_row.Tie as tie
-
-nothing : (xs : List ℤ) → length xs ≡ 0 → [] ≡ xs
-nothing [] e = refl
-nothing (x ∷ xs) e = absurd (omega arith)
 
 -- what a row that is not empty is
 record Handed (s : Session) (map : List ℤ) (y : ℕ) : Type 0 where
