@@ -10,6 +10,10 @@ maxSide = 2048
 abbrev pub maxQ : ℕ
 maxQ = 4194304
 
+-- the table of refused input, 17: the most steps of a run
+abbrev pub maxCount : ℕ
+maxCount = 2047
+
 -- the table of refused states, 35: the farthest that a component reaches
 abbrev pub maxReach : ℕ
 maxReach = 2047

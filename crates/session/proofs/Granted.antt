@@ -10,11 +10,11 @@ use lib.Dec.{eqb, leb, ltb}
 use lib.IntN.{ℤ}
 use lib.ListN.{length}
 use borrow.Author.Tests.{leb-true, ltb-true, leb-false, ltb-false, eqb-true, not-true, not-false}
-use Rattle.raster.specs.Limits.{maxSide, maxQ}
+use Rattle.raster.specs.Limits.{maxSide, maxQ, maxCount}
 use Rattle.raster.specs.RefusalLaws.{passed, first-every}
 use Rattle.raster.specs.Tests.{and-left, and-right, or-left, or-right}
 use Rattle.session.specs.declared.Session.{Session}
-use Rattle.session.specs.State.{side, maxCount, cutterSound, mapSound, sheetSound, sound, active}
+use Rattle.session.specs.State.{side, cutterSound, mapSound, sheetSound, sound, active}
 use Rattle.session.specs.Directions.{stepRight, stepDown, leaves}
 use Rattle.session.specs.Calls.{notSheet, notMap, shortScratch, openAnswer, fillAnswer, buildRefusal, placeRefusal, runRefusal, OnSheet, resizeAnswer, readAnswer}
 use Rattle.session.proofs.Signs.{stays, between}

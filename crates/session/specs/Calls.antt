@@ -9,7 +9,7 @@ use lib.Dec.{eqb, leb, ltb}
 use lib.IntN.{ℤ}
 use lib.ListN.{length, take, drop}
 use Rattle.raster.specs.Gate.{Gate, passes}
-use Rattle.raster.specs.Limits.{maxQ}
+use Rattle.raster.specs.Limits.{maxQ, maxCount}
 use Rattle.raster.specs.Loop.{some}
 use Rattle.raster.specs.Map.{sizeAt, unlabelledAt, unmapped, hasCopper}
 use Rattle.raster.specs.Pixels.{index}
@@ -18,7 +18,7 @@ use Rattle.raster.specs.Sheet.{copperOf, filled}
 use Rattle.scan.specs.Scan as scan
 use Rattle.exact.specs.Nearest as exact
 use Rattle.session.specs.declared.Session.{Session}
-use Rattle.session.specs.State.{fresh, side, maxCount, sound, active, stale, builtBy, downAt, upOf}
+use Rattle.session.specs.State.{fresh, side, sound, active, stale, builtBy, downAt, upOf}
 use Rattle.session.specs.Directions.{stepRight, stepDown, leaves, columnAfter, rowAfter}
 
 -- done: the new value; refused: the old one

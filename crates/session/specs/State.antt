@@ -14,10 +14,6 @@ fresh = record { opened = false; width = 0; height = 0; current = false; engine 
 abbrev pub side : ℕ → Bool
 side n = leb 1 n && leb n maxSide
 
--- refusal 17: the most steps of a run
-abbrev pub maxCount : ℕ
-maxCount = 2047
-
 -- the cutter is up with nothing recorded, or down on the sheet over a current map
 unfoldable pub cutterSound : Session → Bool
 cutterSound s =

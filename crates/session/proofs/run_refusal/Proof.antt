@@ -8,9 +8,10 @@ use lib.Dec.{eqb, leb, ltb}
 use lib.ListN.{length}
 use borrow.Author.Needs.{needs}
 use borrow.Author.Tests.{eq-eqb, ne-eqb, ltb-false, not-false}
+use Rattle.raster.specs.Limits.{maxCount}
 use Rattle.raster.specs.Refusal.{firstOf}
 use Rattle.raster.specs.Tests.{or-left}
-use Rattle.session.specs.State.{maxCount, active}
+use Rattle.session.specs.State.{active}
 use Rattle.session.specs.Directions.{stepRight, stepDown, leaves}
 use Rattle.session.specs.Calls.{runRefusal}
 use Rattle.session.proofs.Granted.{active-limits}
