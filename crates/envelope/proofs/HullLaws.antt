@@ -43,14 +43,14 @@ module _ (G : List ℕ) (x a b k : ℕ) (l : a < b) (m : b < k) where
   below e = let d : (b - a) + (k - b) ≡ k - a = omega arith in rw d (leb-false _ _ e)
 
   -- what lies on or above the line costs no less than a, or more than k
-  pub over-loses : over G a b k ≡ true → (price G x a ≤ price G x b) ⊎ (price G x k < price G x b)
+  over-loses : over G a b k ≡ true → (price G x a ≤ price G x b) ⊎ (price G x k < price G x b)
   over-loses e = ⊎-elim (λ h. inr (⊎-elim (λ i. i) (λ i. absurd (no h i)) (order (price G x k) (price G x b)))) (λ h. inl h) (order (price G x b) (price G x a))
     where
       no : price G x b < price G x a → price G x b ≤ price G x k → ⊥
       no h i = omega (arith, prices, on-or-above e, mul-le-mul-right (k - b) h, mul-le-mul-right (b - a) i)
 
   -- below the line: where k costs less than b, b costs less than a
-  pub under-wins : over G a b k ≡ false → price G x k < price G x b → price G x b < price G x a
+  under-wins : over G a b k ≡ false → price G x k < price G x b → price G x b < price G x a
   under-wins e h = ⊎-elim (λ i. i) (λ i. absurd (no i)) (order (price G x b) (price G x a))
     where
       no : price G x a ≤ price G x b → ⊥
@@ -66,12 +66,12 @@ module _ (G : List ℕ) (x a b k : ℕ) (l : a < b) (m : b < k) where
 -- two places from the left
 module _ (G : List ℕ) (x s k : ℕ) (l : s < k) where
   -- a lower point costs less everywhere
-  pub lower-wins : heightOf G k < heightOf G s → price G x k < price G x s
+  lower-wins : heightOf G k < heightOf G s → price G x k < price G x s
   lower-wins h = omega (arith, price-height G x s, price-height G x k, mul-le-mul-left x l)
 
   module _ (p : heightOf G s ≤ heightOf G k) where
     -- from the crossing on the later site costs less, and before it not
-    pub crossed : crossing G s k ≤ x → price G x k < price G x s
+    crossed : crossing G s k ≤ x → price G x k < price G x s
     unfolding crossing
     crossed a =
         let pos : 0 < 2 * (k - s) = omega arith in
@@ -79,7 +79,7 @@ module _ (G : List ℕ) (x s k : ℕ) (l : s < k) where
         let d : s + (k - s) ≡ k = omega arith in
         omega (arith, price-height G x k, price-height G x s, ap (λ (t : ℕ). x * t) d)
 
-    pub uncrossed : x < crossing G s k → price G x s ≤ price G x k
+    uncrossed : x < crossing G s k → price G x s ≤ price G x k
     unfolding crossing
     uncrossed a = ⊎-elim (λ b. absurd (no b)) (λ b. b) (order (price G x k) (price G x s))
       where

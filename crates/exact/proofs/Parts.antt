@@ -41,7 +41,7 @@ copper-cost : (ways : List ℤ) (w k : ℕ) → k < w → getD ways k (pos 0) �
 copper-cost ways w k l e = costs-at ways w k l ∙ ap costOf e
 
 -- a part that is written as a row of its own is written as the row asks
-pub part-solved : {base w lo hi : ℕ} (ways : List ℤ) {m o : List ℤ} → w ≤ 2048 → lo ≤ hi → Part (costsOf ways w) w lo hi
+part-solved : {base w lo hi : ℕ} (ways : List ℤ) {m o : List ℤ} → w ≤ 2048 → lo ≤ hi → Part (costsOf ways w) w lo hi
     → Written (base + lo) 0 (hi - lo) (λ b. getD (part lo hi ways) b (pos 0)) (bestSite (costsOf (part lo hi ways) (hi - lo)) (hi - lo)) m o
     → Written base lo hi (λ b. getD ways b (pos 0)) (bestSite (costsOf ways w) w) m o
 part-solved {base} {w} {lo} {hi} ways {m} {o} few order p r = record {
@@ -86,7 +86,7 @@ part-solved {base} {w} {lo} {hi} ways {m} {o} few order p r = record {
 -- ---- copper
 
 -- copper that goes to itself goes to its best column
-pub copper-solved : {base w from to : ℕ} (ways : List ℤ) {m o : List ℤ} → w ≤ 2048 → CopperEnd ways from w to
+copper-solved : {base w from to : ℕ} (ways : List ℤ) {m o : List ℤ} → w ≤ 2048 → CopperEnd ways from w to
     → Written base from to (λ b. pos 0) (λ x. x) m o → Written base from to (λ b. getD ways b (pos 0)) (bestSite (costsOf ways w) w) m o
 copper-solved {w = w} ways few c r = run-same r (λ x i j.
     let z = c .copper x i j in

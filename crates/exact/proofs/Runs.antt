@@ -28,7 +28,7 @@ pub across-self : (x : ℕ) → x < 2048 → (pos 0 ≡ across x x) × (pos 0 �
 across-self x few = (sym (+ℤ-invr (pos x)) ∙ across-site x few x, along-site x few (λ b. pos 0))
 
 -- what a write and the next one leave alone, both together do
-pub chain : {a b c d e f : ℤ} → (a ≡ b) × (d ≡ e) → (b ≡ c) × (e ≡ f) → (a ≡ c) × (d ≡ f)
+chain : {a b c d e f : ℤ} → (a ≡ b) × (d ≡ e) → (b ≡ c) × (e ≡ f) → (a ≡ c) × (d ≡ f)
 chain p q = (p .0 ∙ q .0, p .1 ∙ q .1)
 
 -- one pixel is written, and the others are left alone
@@ -108,7 +108,7 @@ run-over {base} {a} {b} {c} {d} h k l earlier later = record {
 }
 
 -- two runs that meet: the later one was written first, and the earlier one says what it should
-pub run-join : {base a b n : ℕ} {u v : ℕ → ℤ} {way best : ℕ → ℕ} {m o q : List ℤ} → a ≤ b → b ≤ n
+run-join : {base a b n : ℕ} {u v : ℕ → ℤ} {way best : ℕ → ℕ} {m o q : List ℤ} → a ≤ b → b ≤ n
     → Written base b n v best m o → Written base a b u way o q
     → ((x : ℕ) → a ≤ x → x < b → (best x ≡ way x) × (along u (way x) ≡ along v (way x))) → Written base a n v best m q
 run-join {base} {a} {b} {n} {u} {v} {way} {best} {m} {o} {q} h k later earlier same = record {

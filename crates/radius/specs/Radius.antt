@@ -33,7 +33,6 @@ radiusQ r p = cond (eqb (radiusAnswer r p) 0) (squares r p) 0
 
 -- what r and p are where they can be measured
 pub record Measurable (r p : ℕ) : Type 0 where
-  pub some-radius : 1 ≤ r
   pub radius-limit : r ≤ 20000
   pub some-pitch : 1 ≤ p
   pub pitch-limit : p ≤ 1000
@@ -43,7 +42,6 @@ unfolding measurable
 measured r p e =
     let c = and-left (leb 1 r && leb r 20000) _ e in
     let d = and-right (leb 1 r && leb r 20000) _ e in record {
-      some-radius = leb-true 1 r (and-left (leb 1 r) _ c);
       radius-limit = leb-true r 20000 (and-right (leb 1 r) _ c);
       some-pitch = leb-true 1 p (and-left (leb 1 p) _ d);
       pitch-limit = leb-true p 1000 (and-right (leb 1 p) _ d);

@@ -26,7 +26,7 @@ use Rattle.skeleton.specs.Skeleton.{removed, kept, skeletonOf, covered, 
 use Rattle.skeleton.proofs.Disks.{Inside, taken-inside}
 
 -- a pixel that is removed has a larger neighbour whose disk holds its own
-pub removed-inside : (m : List ℤ) (w h x y : ℕ) → removed m w h x y ≡ true → Inside m w h x y
+removed-inside : (m : List ℤ) (w h x y : ℕ) → removed m w h x y ≡ true → Inside m w h x y
 unfolding removed
 removed-inside m w h x y e =
     let a = some-found 3 _ e in

@@ -15,7 +15,7 @@ Inv-loop sheet ways₀ near₀ w h y₀ ways near y = Sunk (copperOf sheet w) w 
 abbrev μ-loop : tie.MeasureT-loop
 μ-loop sheet ways₀ near₀ w h y₀ ways near y = h - y
 
--- row y lies on the board
+-- row y lies on the sheet
 row : (c : tie.In-loop Inv-loop μ-loop) → let a = c .before .before .before .args in c .before .loop .y * a .w + a .w ≤ a .h * a .w
 row c =
     let a = c .before .before .before .args in

@@ -13,7 +13,7 @@ Inv-loop ways₀ near₀ w h y₀ ways near y = Risen w h ways₀ near₀ y ways
 abbrev μ-loop : tie.MeasureT-loop
 μ-loop ways₀ near₀ w h y₀ ways near y = y
 
--- row y − 1 lies on the board
+-- row y − 1 lies on the sheet
 row : (c : tie.In-loop Inv-loop μ-loop) → let a = c .before .before .args in (c .before .loop .y - 1) * a .w + a .w ≤ a .h * a .w
 row c =
     let a = c .before .before .args in

@@ -18,7 +18,7 @@ Inv-loop map₀ w h ways₀ cost₀ site₀ start₀ rows₀ map ways cost site 
 abbrev μ-loop : tie.MeasureT-loop
 μ-loop map₀ w h ways₀ cost₀ site₀ start₀ rows₀ map ways cost site start rows = rows
 
--- the next row lies on the board
+-- the next row lies on the sheet
 row : (c : tie.In-loop Inv-loop μ-loop) → let a = c .before .before .before .before .before .args in
     (c .before .loop .rows - 1) * a .w + a .w ≤ a .h * a .w
 row c =
