@@ -3,12 +3,13 @@
 use mathlib.Core.Path.{_≡_}
 use mathlib.Core.Bool.{true, _&&_}
 use Prim.Native.Nat.{ℕ, _<_, _≤_}
-use lib.Dec.{leb, ltb}
+use lib.Dec.{leb}
 use borrow.Author.Tests.{le-leb, lt-ltb, leb-true}
 use Rattle.raster.specs.Limits.{maxQ}
 use Rattle.raster.specs.Tests.{and-left, and-right}
 use Rattle.session.specs.declared.Session.{Session}
 use Rattle.session.specs.State.{side, cutterSound, mapSound, sheetSound, sound, active, openedAs, stale, builtBy, downAt, upOf}
+use Rattle.session.proofs.Granted.{active-sides}
 
 pub open-sound : (w h : ℕ) → side w && side h ≡ true → sound (openedAs w h) ≡ true
 unfolding sound sheetSound mapSound cutterSound
@@ -25,25 +26,12 @@ module _ (s : Session) (fine : sound s ≡ true) where
   unfolding sound
   map-part = and-left (mapSound s) _ (and-right (sheetSound s) _ fine)
 
-  cutter-part : cutterSound s ≡ true
-  unfolding sound
-  cutter-part = and-right (mapSound s) _ (and-right (sheetSound s) _ fine)
-
   -- a current map has a known engine
   pub known-engine : s .current ≡ true → (1 ≤ s .engine) × (s .engine ≤ 3)
   unfolding mapSound
   known-engine c =
       let e : leb 1 (s .engine) && leb (s .engine) 3 ≡ true = rw c at map-part in
       (leb-true 1 (s .engine) (and-left (leb 1 (s .engine)) _ e), leb-true (s .engine) 3 (and-right (leb 1 (s .engine)) _ e))
-
-  -- a lowered cutter has a current map, and a q within its limit
-  pub lowered-current : s .lowered ≡ true → s .current ≡ true
-  unfolding cutterSound
-  lowered-current l = and-left (s .current) _ (rw l at cutter-part)
-
-  pub lowered-small : s .lowered ≡ true → s .q ≤ maxQ
-  unfolding cutterSound
-  lowered-small l = leb-true (s .q) maxQ (and-right (ltb (s .x) (s .width) && ltb (s .y) (s .height)) _ (and-right (s .current) _ (rw l at cutter-part)))
 
   pub up-sound : sound (upOf s) ≡ true
   unfolding sound sheetSound mapSound cutterSound
@@ -59,13 +47,9 @@ module _ (s : Session) (open-sheet : active s ≡ true) where
   pub fine : sound s ≡ true
   fine = and-right (s .opened) _ open-sheet
 
-  sides : side (s .width) && side (s .height) ≡ true
-  unfolding sheetSound
-  sides = rw (and-left (s .opened) _ open-sheet) at (sheet-part s fine)
-
   pub stale-sound : sound (stale s) ≡ true
-  stale-sound = open-sound (s .width) (s .height) sides
+  stale-sound = open-sound (s .width) (s .height) (active-sides s open-sheet)
 
   pub built-sound : (e : ℕ) → leb 1 e && leb e 3 ≡ true → sound (builtBy e s) ≡ true
   unfolding sound sheetSound mapSound cutterSound
-  built-sound e k = rw (sides, k)
+  built-sound e k = rw (active-sides s open-sheet, k)

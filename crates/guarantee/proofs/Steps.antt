@@ -28,7 +28,7 @@ use Rattle.guarantee.specs.Board.{Lent, Call, opening, paint, erase, bui
 use Rattle.guarantee.specs.World.{World, world, lentTo, answer, after}
 use Rattle.guarantee.specs.Claims.{Along, Close, Stopped, Claim, SameCutter, Free}
 use Rattle.guarantee.proofs.Answers.{Quiet, open-quiet, fill-quiet, build-quiet, place-quiet, run-quiet, resize-quiet, read-quiet, last-done, last-holds, last-never}
-use Rattle.guarantee.proofs.Sound.{open-sound, stale-sound, built-sound, up-sound, down-sound, lowered-current, lowered-small}
+use Rattle.guarantee.proofs.Sound.{open-sound, stale-sound, built-sound, up-sound, down-sound}
 use Rattle.guarantee.proofs.Copper.{bare-copper, filled-copper, expanded-copper, shrunk-copper}
 use Rattle.guarantee.proofs.Invariant.{Inv, opens, above, passed-clear, failed-close}
 
@@ -334,7 +334,7 @@ module _ {b : Board} {w : World} (inv : Inv b w) where
         some-false n (λ j. not (session.passesAfter s (w .map) d (j + 1))) (i - 1) none (omega arith)
         in
         let p : session.passesAfter s (w .map) d i ≡ true = not-false _ (rw k at f) in
-        passed-clear inv (g .open-sheet) (lowered-current s (inv .fine) (g .lowered)) (columnAfter d i (s .x)) (rowAfter d i (s .y)) (s .q)
+        passed-clear inv (g .open-sheet) (g .cutter .current) (columnAfter d i (s .x)) (rowAfter d i (s .y)) (s .q)
         (o .end .0) (o .end .1) p
 
     pub run-free : runA ≡ 0 → (i : ℕ) → 1 ≤ i → i ≤ n → Free w (columnAfter d i (s .x)) (rowAfter d i (s .y))
@@ -357,7 +357,7 @@ module _ {b : Board} {w : World} (inv : Inv b w) where
           last = omega (arith, f .below);
           close =
               rw (← a, ← c, ← e)
-              (failed-close inv (g .open-sheet) (lowered-current s (inv .fine) (g .lowered)) _ _ (s .q) (o .end .0) (o .end .1) (not-true _ (f .passes)));
+              (failed-close inv (g .open-sheet) (g .cutter .current) _ _ (s .q) (o .end .0) (o .end .1) (not-true _ (f .passes)));
         }
 
     moves : (k : Cutter) → SameCutter k s → s .lowered ≡ true → SameCutter (moved d n k) (session.runSession s d n)
@@ -380,8 +380,8 @@ module _ {b : Board} {w : World} (inv : Inv b w) where
             copper = same;
           };
           fine =
-              down-sound s (inv .fine) (columnAfter d n (s .x)) (rowAfter d n (s .y)) (s .q) (lowered-current s (inv .fine) (g .lowered))
-              (g .on .end .0) (g .on .end .1) (lowered-small s (inv .fine) (g .lowered));
+              down-sound s (inv .fine) (columnAfter d n (s .x)) (rowAfter d n (s .y)) (s .q) (g .cutter .current)
+              (g .on .end .0) (g .on .end .1) (g .cutter .small);
           built = λ c. let m = inv .built c in record { whole = m .whole; map-is = m .map-is };
           stands = λ c. frees g (r .1) n (g .steps) (omega arith);
         }
