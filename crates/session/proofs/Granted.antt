@@ -20,6 +20,7 @@ use Rattle.session.specs.State.{side, cutterSound, mapSound, sheetSound,
 use Rattle.session.specs.Directions.{stepRight, stepDown, leaves}
 use Rattle.session.specs.Calls.{notSheet, notMap, shortScratch, openAnswer, fillAnswer, buildRefusal, placeRefusal, runRefusal, OnSheet, resizeAnswer, readAnswer}
 use Rattle.session.proofs.Signs.{stays, between}
+use Rattle.session.proofs.Walk.{leaves-sheet}
 
 both : (a b : Bool) → a && b ≡ true → (a ≡ true) × (b ≡ true)
 both a b e = (and-left a b e, and-right a b e)
@@ -168,18 +169,20 @@ run-granted s map d n table done =
     let f = fails _ refl (sym table ∙ done) in
     let counted : leb 1 n && leb n maxCount ≡ true = not-false _ (or-right (ltb 7 d) _ (f 2)) in
     let cutter = lowered-says s (and-right (s .opened) _ (not-false _ (f 0))) (not-false _ (f 3)) in
+    let known = ltb-false 7 d (or-left (ltb 7 d) _ (f 2)) in
+    let inside = leaves-sheet s d known (cutter .across) (cutter .down) n ∙ f 4 in
     record {
       open-sheet = not-false _ (f 0);
       lowered = not-false _ (f 3);
       cutter = cutter;
       steps = leb-true 1 n (and-left (leb 1 n) _ counted);
       on = record {
-        known = ltb-false 7 d (or-left (ltb 7 d) _ (f 2));
+        known = known;
         held = eqb-true _ _ (not-false _ (f 1));
         start = (cutter .across, cutter .down);
         end = (
-          stays (stepRight d) (s .width) n (s .x) (cutter .across) (or-left (leaves (stepRight d) (s .width) n (s .x)) _ (f 4)),
-          stays (stepDown d) (s .height) n (s .y) (cutter .down) (or-right (leaves (stepRight d) (s .width) n (s .x)) _ (f 4)),
+          stays (stepRight d) (s .width) n (s .x) (cutter .across) (or-left (leaves (stepRight d) (s .width) n (s .x)) _ inside),
+          stays (stepDown d) (s .height) n (s .y) (cutter .down) (or-right (leaves (stepRight d) (s .width) n (s .x)) _ inside),
         );
       };
     }

@@ -6,7 +6,7 @@ use mathlib.Core.List.{List, [], _∷_}
 use mathlib.Core.Path.{_≡_}
 use Prim.Native.Nat.{ℕ, _+_, _*_, _<_, _≤_}
 use lib.Dec.{eqb, leb, ltb}
-use lib.IntN.{ℤ}
+use lib.IntN.{ℤ, pos}
 use lib.ListN.{length, take, drop}
 use Rattle.raster.specs.Gate.{Gate, passes}
 use Rattle.raster.specs.Limits.{maxQ, maxCount}
@@ -19,7 +19,7 @@ use Rattle.scan.specs.Scan as scan
 use Rattle.exact.specs.Nearest as exact
 use Rattle.session.specs.declared.Session.{Session}
 use Rattle.session.specs.State.{fresh, side, sound, active, stale, builtBy, downAt, upOf}
-use Rattle.session.specs.Directions.{stepRight, stepDown, leaves, columnAfter, rowAfter}
+use Rattle.session.specs.Directions.{columnAfter, rowAfter, walk, isPixel}
 
 -- done: the new value; refused: the old one
 abbrev pub onDone : {A : Type 0} → (answer : ℕ) → A → A → A
@@ -104,13 +104,17 @@ placeRefusal s map x y q = firstOf
 unfoldable pub placeAnswer : Session → List ℤ → (x y q : ℕ) → ℕ
 placeAnswer s map x y q = lastOf (placeRefusal s map x y q) (not (passesAt (s .engine) map (index (s .width) x y) q)) 34
 
+-- a run leaves the sheet: one of its steps, taken one after another, ends at no pixel
+unfoldable pub strays : Session → (direction count : ℕ) → Bool
+strays s d n = some n (λ i. not (isPixel (s .width) (s .height) (walk d (i + 1) (pos (s .x), pos (s .y)))))
+
 unfoldable pub runRefusal : Session → List ℤ → (direction count : ℕ) → ℕ
 runRefusal s map d n = firstOf
     ((not (active s), 30)
     ∷ (notMap s map, 12)
     ∷ (ltb 7 d || not (leb 1 n && leb n maxCount), 17)
     ∷ (not (s .lowered), 32)
-    ∷ (leaves (stepRight d) (s .width) n (s .x) || leaves (stepDown d) (s .height) n (s .y), 33)
+    ∷ (strays s d n, 33)
     ∷ [])
 
 -- what a run that those rows let through has: a map of the sheet, and its start and end on the sheet

@@ -10,12 +10,12 @@ use borrow.Author.Needs.{needs}
 use borrow.Author.Tests.{eq-eqb, ne-eqb, ltb-false, not-false}
 use Rattle.raster.specs.Limits.{maxCount}
 use Rattle.raster.specs.Refusal.{firstOf}
-use Rattle.raster.specs.Tests.{or-left}
+use Rattle.raster.specs.Tests.{and-right, or-left}
 use Rattle.session.specs.State.{active}
-use Rattle.session.specs.Directions.{stepRight, stepDown, leaves}
-use Rattle.session.specs.Calls.{runRefusal}
-use Rattle.session.proofs.Granted.{active-limits}
+use Rattle.session.specs.Calls.{strays, runRefusal}
+use Rattle.session.proofs.Granted.{active-limits, lowered-says}
 use Rattle.session.proofs.Signs.{leaving}
+use Rattle.session.proofs.Walk.{leaves-sheet}
 use Rattle.session.proofs.run_refusal.Statement.{statement}
 use Rattle.session.proofs.run_refusal.Tie as tie
 
@@ -59,14 +59,18 @@ known c =
 -- what the last test looks at
 off : (c : tie.After-is-leaving2) → let l = c .before .before in
     let a = l .before .before .before .before .before .before .before .before .before .args in
-    l .is-leaving .result || c .is-leaving2 .result
-    ≡ leaves (stepRight (a .d)) (a .s .width) (a .n) (a .s .x) || leaves (stepDown (a .d)) (a .s .height) (a .n) (a .s .y)
+    l .is-leaving .result || c .is-leaving2 .result ≡ strays (a .s) (a .d) (a .n)
 off c =
     let l = c .before .before in
+    let z = l .before .before in
+    let q = z .before .before in
+    let a = q .before .before .before .before .before .args in
+    let cutter = lowered-says (a .s) (and-right (a .s .opened) _ (not-false _ (fine (q .before .before .before)))) (not-false _ (z .if4 .left)) in
     rw (
       leaving _ _ _ (l .before .step-right .ok) (l .before .step-right .ensures) (l .is-leaving .ensures),
       leaving _ _ _ (c .before .step-down .ok) (c .before .step-down .ensures) (c .is-leaving2 .ensures),
     )
+    (leaves-sheet (a .s) (a .d) (known q) (cutter .across) (cutter .down) (a .n))
 
 returns-5 : tie.Need-returns-5
 unfolding runRefusal firstOf

@@ -1,0 +1,118 @@
+-- A run is its single steps: the pixels that it tests are reached by one step of the table after another (`reached`), and what the code tests for 33 is
+-- that one of these steps ends off the sheet (`leaves-sheet`).
+-- Assumes nothing.
+use mathlib.Core.Path.{_≡_, refl, sym, ap, _∙_}
+use mathlib.Core.Bool.{Bool, true, false, not, _&&_, _||_, or-true, true≢false}
+use Prim.Native.Nat.{ℕ, zero, suc, _+_, _-_, _<_, _≤_}
+use native.Mathlib.Decide.{decLt}
+use native.Mathlib.Numerals.{add-one}
+use native.Mathlib.Omega.{arith}
+use lib.Dec.{ltb}
+use lib.IntN.{ℤ, pos, negsuc, _+ℤ_, natAbs}
+use borrow.Author.Tests.{ltb-false, leb-false, lt-ltb, le-ltb, le-leb, lt-leb}
+use Rattle.raster.specs.Loop.{some}
+use Rattle.raster.specs.LoopLaws.{some-false}
+use Rattle.raster.specs.Tests.{or-left, or-right}
+use Rattle.session.specs.declared.Session.{Session}
+use Rattle.session.specs.Directions.{steps, stepRight, stepDown, along, leaves, columnAfter, rowAfter, walk, inLine, isPixel}
+use Rattle.session.specs.Calls.{strays}
+
+-- no step of the table is longer than 1: tested once, carried to every entry
+single : (d : ℕ) → d ≤ 7 → (natAbs (stepRight d) ≤ 1) × (natAbs (stepDown d) ≤ 1)
+unfolding steps some
+single d l =
+    let e = some-false 8 (λ k. ltb 1 (natAbs (stepRight k)) || ltb 1 (natAbs (stepDown k))) d refl (omega arith) in
+    (ltb-false 1 _ (or-left _ (ltb 1 (natAbs (stepDown d))) e), ltb-false 1 _ (or-right (ltb 1 (natAbs (stepRight d))) _ e))
+
+-- ---- on a line
+
+-- no step
+start : (z : ℤ) (side t : ℕ) → t < side → (along z 0 t ≡ t) × (leaves z side 0 t ≡ false)
+start (pos zero) side t l = (refl, refl)
+start (pos (suc k)) side t l = (omega arith, lt-leb side (t + 0) (omega arith))
+start (negsuc k) side t l = (omega arith, le-ltb t 0 (omega arith))
+
+-- steps that do not leave it have not left it on the way
+earlier : (z : ℤ) (side n t i : ℕ) → i ≤ n → leaves z side n t ≡ false → leaves z side i t ≡ false
+earlier (pos zero) side n t i l e = refl
+earlier (pos (suc k)) side n t i l e = lt-leb side (t + i) (omega (arith, leb-false side (t + n) e))
+earlier (negsuc k) side n t i l e = le-ltb t i (omega (arith, ltb-false t n e))
+
+-- the place of one step more: on the line unless the steps leave it
+on : (z : ℤ) (side n t : ℕ) → natAbs z ≤ 1 → t < side → leaves z side n t ≡ false → inLine side (pos (along z n t) +ℤ z) ≡ not (leaves z side (suc n) t)
+on (pos zero) side n t k l e = lt-ltb (t + 0) side (omega arith)
+on (pos (suc zero)) side n t k l e = elim (decLt (t + n + 1) side) [
+  | yes h ↦ rw (lt-ltb (t + n + 1) side h, lt-leb side (t + suc n) (omega arith))
+  | no h ↦ rw (le-ltb (t + n + 1) side (omega arith), le-leb side (t + suc n) (omega arith))
+]
+on (pos (suc (suc m))) side n t k l e = absurd (omega arith)
+on (negsuc zero) side n t k l e = elim (decLt n t) [
+  | yes h ↦ rw (le-ltb (t - n) 1 (omega arith), le-ltb t (suc n) (omega arith)) (lt-ltb (t - n - 1) side (omega arith))
+  | no h ↦ rw (lt-ltb (t - n) 1 (omega arith), lt-ltb t (suc n) (omega arith))
+]
+on (negsuc (suc m)) side n t k l e = absurd (omega arith)
+
+-- and where it is then
+next : (z : ℤ) (side n t : ℕ) → natAbs z ≤ 1 → leaves z side (suc n) t ≡ false → pos (along z n t) +ℤ z ≡ pos (along z (suc n) t)
+next (pos zero) side n t k e = ap pos (omega arith)
+next (pos (suc zero)) side n t k e = ap pos (omega arith)
+next (pos (suc (suc m))) side n t k e = absurd (omega arith)
+next (negsuc zero) side n t k e = let l = ltb-false t (suc n) e in rw (le-ltb (t - n) 1 (omega arith)) (ap pos (omega arith))
+next (negsuc (suc m)) side n t k e = absurd (omega arith)
+
+-- ---- on the sheet
+
+either : (a b : Bool) → a || b ≡ not (not a && not b) || false
+either true b = refl
+either false true = refl
+either false false = refl
+
+module _ (s : Session) (d : ℕ) (known : d ≤ 7) (across : s .x < s .width) (down : s .y < s .height) where
+  abbrev right : ℕ → Bool
+  right n = leaves (stepRight d) (s .width) n (s .x)
+
+  abbrev below : ℕ → Bool
+  below n = leaves (stepDown d) (s .height) n (s .y)
+
+  both-earlier : (n i : ℕ) → i ≤ n → right n || below n ≡ false → (right i ≡ false) × (below i ≡ false)
+  both-earlier n i l e = (
+    earlier (stepRight d) (s .width) n (s .x) i l (or-left _ (below n) e),
+    earlier (stepDown d) (s .height) n (s .y) i l (or-right (right n) _ e),
+  )
+
+  at-pixel : (n : ℕ) → right n || below n ≡ false → walk d n (pos (s .x), pos (s .y)) ≡ (pos (columnAfter d n (s .x)), pos (rowAfter d n (s .y)))
+  unfolding walk
+  at-pixel zero e = rw (start (stepRight d) (s .width) (s .x) across .0, start (stepDown d) (s .height) (s .y) down .0)
+  at-pixel (suc n) e =
+      let o = both-earlier (suc n) n (omega arith) e in
+      let k = both-earlier (suc n) (suc n) (omega arith) e in
+      rw (
+        at-pixel n (rw (o .0, o .1)),
+        next (stepRight d) (s .width) n (s .x) (single d known .0) (k .0),
+        next (stepDown d) (s .height) n (s .y) (single d known .1) (k .1),
+      )
+
+  -- what the code tests is that one of the steps ends at no pixel
+  pub leaves-sheet : (n : ℕ) → right n || below n ≡ strays s d n
+  unfolding strays some walk
+  leaves-sheet zero = rw (start (stepRight d) (s .width) (s .x) across .1, start (stepDown d) (s .height) (s .y) down .1)
+  leaves-sheet (suc n) = rw (add-one n, ← leaves-sheet n) (go (right n || below n) (right (suc n) || below (suc n)) refl refl)
+    where
+      strays-next : Bool
+      strays-next = not (isPixel (s .width) (s .height) (walk d (suc n) (pos (s .x), pos (s .y))))
+
+      go : (t u : Bool) → right n || below n ≡ t → right (suc n) || below (suc n) ≡ u → u ≡ strays-next || t
+      go true true e f = sym (or-true strays-next)
+      go true false e f = let o = both-earlier (suc n) n (omega arith) f in absurd (true≢false (sym e ∙ rw (o .0, o .1)))
+      go false u e f =
+          let o = both-earlier n n (omega arith) e in
+          rw (
+            at-pixel n e,
+            on (stepRight d) (s .width) n (s .x) (single d known .0) across (o .0),
+            on (stepDown d) (s .height) n (s .y) (single d known .1) down (o .1),
+          )
+          (sym f ∙ either (right (suc n)) (below (suc n)))
+
+  -- after i of the steps, a run that does not leave the sheet is at the pixel that it tests
+  pub reached : (n : ℕ) → strays s d n ≡ false → (i : ℕ) → i ≤ n → walk d i (pos (s .x), pos (s .y)) ≡ (pos (columnAfter d i (s .x)), pos (rowAfter d i (s .y)))
+  reached n e i l = let o = both-earlier n i l (leaves-sheet n ∙ e) in at-pixel i (rw (o .0, o .1))
