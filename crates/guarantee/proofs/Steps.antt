@@ -1,83 +1,68 @@
 -- Each call, from a board and a world between which the invariant holds: its claim holds, and the invariant holds after it.
 -- Assumes nothing.
-use mathlib.Core.Path.{_≡_, refl, sym, ap, subst, _∙_}
+use mathlib.Core.Path.{_≡_, refl, sym, ap, _∙_}
 use mathlib.Core.Bool.{Bool, true, false, not, cond, _&&_, _||_, true≢false}
 use mathlib.Core.List.{List}
 use mathlib.Core.Option.{Option}
-use Prim.Native.Nat.{ℕ, _+_, _-_, _*_, _<_, _≤_}
+use Prim.Native.Nat.{ℕ, _+_, _-_, _<_, _≤_}
 use native.Mathlib.Omega.{arith}
 use lib.Dec.{eqb, leb}
 use lib.IntN.{ℤ}
-use lib.ListN.{length}
 use borrow.Author.Tests.{eqb-true, eqb-false, ne-eqb, leb-true, not-true, not-false}
 use Rattle.raster.specs.LoopLaws.{some-found, some-false}
 use Rattle.raster.specs.Distance.{Clear}
 use Rattle.raster.specs.Pixels.{Mask, index}
-use Rattle.raster.specs.Refusal.{lastOf}
 use Rattle.raster.specs.Tests.{and-left}
 use Rattle.raster.specs.Sheet.{copperOf, bare, covers}
 use Rattle.raster.specs.Map.{unmapped}
-use Rattle.morphology.specs.Resize.{expanded, shrunk}
+use Rattle.raster.specs.Refusal.{lastOf}
 use Rattle.session.specs.declared.Session.{Session}
-use Rattle.session.specs.State.{side, active, openedAs, stale, builtBy, downAt}
+use Rattle.session.specs.State.{sound, active, stale, builtBy, cutterAs}
 use Rattle.session.specs.Directions.{columnAfter, rowAfter}
 use Rattle.session.specs.Calls as session
-use Rattle.session.specs.Calls.{openAnswer, buildAnswer, placeAnswer, runAnswer, blocked}
+use Rattle.session.specs.Calls.{buildAnswer, placeAnswer, runAnswer, blocked}
 use Rattle.session.proofs.Granted.{open-granted, fill-granted, build-granted, Building, place-granted, run-granted, Running, on-the-way, resize-granted}
 use Rattle.guarantee.specs.Board.{Lent, Call, opening, paint, erase, build, place, run, lift, expand, shrink, skeleton, rebuild, aside, Cutter, up, down, Board, recoppered, withCutter, moved, done, feed}
-use Rattle.guarantee.specs.World.{World, world, lentTo, answer, after}
-use Rattle.guarantee.specs.Claims.{Along, Close, Stopped, Claim, SameCutter, Free}
+use Rattle.guarantee.specs.World.{World, world, lentTo, answer, left, after}
+use Rattle.guarantee.specs.Claims.{Along, Safe, Stopped, Fair, Claim, SameCutter, Free}
 use Rattle.guarantee.proofs.Answers.{Quiet, open-quiet, fill-quiet, build-quiet, place-quiet, run-quiet, resize-quiet, read-quiet, last-done, last-holds, last-never}
 use Rattle.guarantee.proofs.Sound.{open-sound, stale-sound, built-sound, up-sound, down-sound}
 use Rattle.guarantee.proofs.Copper.{bare-copper, filled-copper, expanded-copper, shrunk-copper}
-use Rattle.guarantee.proofs.Invariant.{Inv, opens, above, passed-clear, failed-close}
+use Rattle.guarantee.proofs.Invariant.{Built, Inv, opens, above, passed-clear, failed-close}
 
 pub record Step (c : Call) (b : Board) (w : World) : Type 0 where
   pub claim : Claim c (answer c w) b
   pub next : Inv (feed c (answer c w) b) (after c w)
 
-no-34 : {a : ℕ} → Quiet a → a ≡ 34 → ⊥
-no-34 {a} q e = eqb-false a 34 (q .no-34) e
+-- a call that is refused, save with 35, leaves everything as it was
+refused : (c : Call) (w : World) → eqb (answer c w) 0 ≡ false → eqb (answer c w) 35 ≡ false → after c w ≡ w
+refused (opening x y o) w e f = rw e
+refused (paint x y c r) w e f = rw e
+refused (erase x y c r) w e f = rw e
+refused (build n s) w e f = rw (e, f)
+refused (place x y q) w e f = rw e
+refused (run d n) w e f = rw e
+refused lift w e f = absurd (true≢false e)
+refused (expand q s) w e f = rw e
+refused (shrink q s) w e f = rw e
+refused (skeleton o) w e f = refl
+refused (rebuild m o) w e f = refl
+refused aside w e f = refl
 
--- ---- open
+-- ---- a sheet is open, the cutter up
 
-open-inv : (b : Board) (x y : ℕ) (sheet : List ℕ) (map : List ℤ) → side x && side y ≡ true → length sheet ≡ y * x
-    → Inv (done (opening x y Option.none) b) (world (openedAs x y) (bare sheet) map)
-open-inv b x y sheet map sides whole =
-    let sound = open-sound x y sides in record {
-      agree = record {
-        width = refl;
-        height = refl;
-        engine = refl;
-        cutter = refl;
-        opened = opens (openedAs x y) sound;
-        current = refl;
-        copper = λ i j k l. bare-copper x y i j k l sheet whole;
-      };
-      fine = sound;
-      built = λ e. absurd (true≢false (sym e));
-      stands = λ e. absurd (true≢false (sym e));
-    }
+abbrev upOver : (x y engine : ℕ) (current : Bool) → Session
+upOver x y e c = record { opened = true; width = x; height = y; current = c; engine = e; lowered = false; x = 0; y = 0; q = 0 }
 
--- ---- the copper changes
-
--- the session is stale, the board has the sheet's new copper
-stale-inv : {b : Board} {w : World} → Inv b w → active (w .session) ≡ true → (sheet : List ℕ) (map : List ℤ) (copper : Mask)
-    → ((i j : ℕ) → i < w .session .width → j < w .session .height → copperOf sheet (w .session .width) i j ≡ copper i j)
-    → Inv (recoppered copper b) (world (stale (w .session)) sheet map)
-stale-inv {b} {w} inv open-sheet sheet map copper same = record {
-  agree = record {
-    width = inv .agree .width;
-    height = inv .agree .height;
-    engine = refl;
-    cutter = refl;
-    opened = subst (λ (n : ℕ). true ≡ not (eqb n 0)) (inv .agree .width) (opens (w .session) open-sheet);
-    current = refl;
-    copper = same;
-  };
-  fine = stale-sound (w .session) open-sheet;
-  built = λ e. absurd (true≢false (sym e));
-  stands = λ e. absurd (true≢false (sym e));
+up-inv : (x y e : ℕ) (c : Bool) (copper : Mask) (sheet : List ℕ) (map : List ℤ) → sound (upOver x y e c) ≡ true → c ≡ not (eqb e 0)
+    → ((i j : ℕ) → i < x → j < y → copperOf sheet x i j ≡ copper i j)
+    → (c ≡ true → Built (world (upOver x y e c) sheet map))
+    → Inv (record { width = x; height = y; copper = copper; engine = e; cutter = up }) (world (upOver x y e c) sheet map)
+up-inv x y e c copper sheet map fine known same built = record {
+  agree = record { width = refl; height = refl; engine = refl; cutter = refl; opened = opens (upOver x y e c) fine; current = known; copper = same };
+  fine = fine;
+  built = built;
+  stands = λ l. absurd (true≢false (sym l));
 }
 
 module _ {b : Board} {w : World} (inv : Inv b w) where
@@ -87,23 +72,38 @@ module _ {b : Board} {w : World} (inv : Inv b w) where
   same : (i j : ℕ) → i < s .width → j < s .height → copperOf (w .sheet) (s .width) i j ≡ b .copper i j
   same = inv .agree .copper
 
+  -- the invariant after any call, from what it is after one that is done and after 35
+  after-inv : (c : Call) → (answer c w ≡ 0 → Inv (done c b) (left c 0 w)) → (answer c w ≡ 35 → Inv (recoppered (b .copper) b) (left c 35 w))
+      → Inv (feed c (answer c w) b) (after c w)
+  after-inv c when-done when-35 = go (eqb (answer c w) 0) (eqb (answer c w) 35) refl refl
+    where
+      go : (t u : Bool) → eqb (answer c w) 0 ≡ t → eqb (answer c w) 35 ≡ u → Inv (cond t (done c b) (cond u (recoppered (b .copper) b) b)) (after c w)
+      go true u e f = let z = eqb-true (answer c w) 0 e in rw z (when-done z)
+      go false true e f = let z = eqb-true (answer c w) 35 f in rw z (when-35 z)
+      go false false e f = rw (refused c w e f) inv
+
+  -- a call that answers neither 34 nor 35 and brings no cutter down
+  quiet-step : (c : Call) → Quiet (answer c w) → Safe c b → (answer c w ≡ 0 → Inv (done c b) (left c 0 w)) → Step c b w
+  quiet-step c quiet safe when-done = record {
+    claim = record { safe = λ e. safe; fair = λ e. absurd (eqb-false _ 34 (quiet .no-34) e) };
+    next = after-inv c when-done (λ e. absurd (eqb-false _ 35 (quiet .no-35) e));
+  }
+
+  -- the session is stale, the board has the sheet's new copper
+  stale-inv : active s ≡ true → (sheet : List ℕ) (map : List ℤ) (copper : Mask)
+      → ((i j : ℕ) → i < s .width → j < s .height → copperOf sheet (s .width) i j ≡ copper i j)
+      → Inv (recoppered copper b) (world (stale s) sheet map)
+  stale-inv open-sheet sheet map copper new =
+      rw (← inv .agree .width, ← inv .agree .height)
+      (up-inv (s .width) (s .height) 0 false copper sheet map (stale-sound s open-sheet) refl new (λ e. absurd (true≢false (sym e))))
+
   -- ---- open
 
-  module _ (x y : ℕ) (o : Option Lent) where
-    abbrev openA : ℕ
-    openA = openAnswer (lentTo o w .sheet) x y
-
-    opened : (t : Bool) → eqb openA 0 ≡ t
-        → Inv (cond t (done (opening x y o) b) (cond (eqb openA 35) (recoppered (b .copper) b) b))
-        (world (cond t (openedAs x y) s) (cond t (bare (lentTo o w .sheet)) (w .sheet)) (cond t (lentTo o w .map) (w .map)))
-    opened true e = let g = open-granted (lentTo o w .sheet) x y (eqb-true openA 0 e) in open-inv b x y (lentTo o w .sheet) (lentTo o w .map) (g .0) (g .1)
-    opened false e = rw (open-quiet (lentTo o w .sheet) x y .no-35) inv
-
-    pub open-step : Step (opening x y o) b w
-    open-step = record {
-      claim = record { safe = λ e. tt; fair = λ e. no-34 (open-quiet (lentTo o w .sheet) x y) e };
-      next = opened (eqb openA 0) refl;
-    }
+  pub open-step : (x y : ℕ) (o : Option Lent) → Step (opening x y o) b w
+  open-step x y o = quiet-step (opening x y o) (open-quiet (lentTo o w .sheet) x y) tt (λ e.
+      let g = open-granted (lentTo o w .sheet) x y e in
+      up-inv x y 0 false (λ i j. false) (bare (lentTo o w .sheet)) (lentTo o w .map) (open-sound x y (g .0)) refl
+      (λ i j k l. bare-copper x y i j k l (lentTo o w .sheet) (g .1)) (λ c. absurd (true≢false (sym c))))
 
   -- ---- paint and erase
 
@@ -116,106 +116,52 @@ module _ {b : Board} {w : World} (inv : Inv b w) where
   erased false u = refl
 
   module _ (x y cols rows : ℕ) where
-    abbrev fillA : ℕ
-    fillA = session.fillAnswer s (w .sheet) x y cols rows
-
-    fills : (v : ℕ) (copper : Mask)
-        → ((i j : ℕ) → cond (covers x y cols rows i j) (not (eqb v 0)) (b .copper i j) ≡ copper i j)
-        → (t : Bool) → eqb fillA 0 ≡ t
-        → Inv (cond t (recoppered copper b) (cond (eqb fillA 35) (recoppered (b .copper) b) b))
-        (world (cond t (stale s) s) (cond t (session.filledBy s x y cols rows v (w .sheet)) (w .sheet)) (w .map))
-    fills v copper rule true e =
-        let g = fill-granted s (w .sheet) x y cols rows refl (eqb-true fillA 0 e) in
-        stale-inv inv (g .open-sheet) _ (w .map) copper
+    fill-inv : (v : ℕ) (copper : Mask) → ((i j : ℕ) → cond (covers x y cols rows i j) (not (eqb v 0)) (b .copper i j) ≡ copper i j)
+        → session.fillAnswer s (w .sheet) x y cols rows ≡ 0
+        → Inv (recoppered copper b) (world (stale s) (session.filledBy s x y cols rows v (w .sheet)) (w .map))
+    fill-inv v copper rule e =
+        stale-inv (fill-granted s (w .sheet) x y cols rows refl e .open-sheet) _ (w .map) copper
         (λ i j k l. filled-copper (s .width) (s .height) i j k l x y cols rows v (w .sheet) ∙ rw (same i j k l) (rule i j))
-    fills v copper rule false e = rw (fill-quiet s (w .sheet) x y cols rows .no-35) inv
 
     pub paint-step : Step (paint x y cols rows) b w
-    paint-step = record {
-      claim = record { safe = λ e. tt; fair = λ e. no-34 (fill-quiet s (w .sheet) x y cols rows) e };
-      next = fills 1 _ (λ i j. painted (covers x y cols rows i j) (b .copper i j)) (eqb fillA 0) refl;
-    }
+    paint-step =
+        quiet-step (paint x y cols rows) (fill-quiet s (w .sheet) x y cols rows) tt
+        (fill-inv 1 _ (λ i j. painted (covers x y cols rows i j) (b .copper i j)))
 
     pub erase-step : Step (erase x y cols rows) b w
-    erase-step = record {
-      claim = record { safe = λ e. tt; fair = λ e. no-34 (fill-quiet s (w .sheet) x y cols rows) e };
-      next = fills 0 _ (λ i j. erased (covers x y cols rows i j) (b .copper i j)) (eqb fillA 0) refl;
-    }
+    erase-step =
+        quiet-step (erase x y cols rows) (fill-quiet s (w .sheet) x y cols rows) tt
+        (fill-inv 0 _ (λ i j. erased (covers x y cols rows i j) (b .copper i j)))
 
   -- ---- expand and shrink
 
   module _ (q : ℕ) (scratch : List ℤ) where
-    abbrev sizeA : ℕ
-    sizeA = session.resizeAnswer s (w .sheet) (w .map) scratch q
-
-    resizes : (sheet : List ℕ) (copper : Mask)
-        → ((i j : ℕ) → i < s .width → j < s .height → copperOf sheet (s .width) i j ≡ copper i j)
-        → (t : Bool) → eqb sizeA 0 ≡ t
-        → Inv (cond t (recoppered copper b) (cond (eqb sizeA 35) (recoppered (b .copper) b) b))
-        (world (cond t (stale s) s) (cond t sheet (w .sheet)) (cond t (unmapped (w .map)) (w .map)))
-    resizes sheet copper rule true e =
-        let g = resize-granted s (w .sheet) (w .map) scratch q refl (eqb-true sizeA 0 e) in
-        stale-inv inv (g .open-sheet) sheet (unmapped (w .map)) copper rule
-    resizes sheet copper rule false e = rw (resize-quiet s (w .sheet) (w .map) scratch q .no-35) inv
+    resize-inv : (sheet : List ℕ) (copper : Mask) → ((i j : ℕ) → i < s .width → j < s .height → copperOf sheet (s .width) i j ≡ copper i j)
+        → session.resizeAnswer s (w .sheet) (w .map) scratch q ≡ 0
+        → Inv (recoppered copper b) (world (stale s) sheet (unmapped (w .map)))
+    resize-inv sheet copper new e =
+        stale-inv (resize-granted s (w .sheet) (w .map) scratch q refl e .open-sheet) sheet (unmapped (w .map)) copper new
 
     pub expand-step : Step (expand q scratch) b w
-    expand-step = record {
-      claim = record { safe = λ e. tt; fair = λ e. no-34 (resize-quiet s (w .sheet) (w .map) scratch q) e };
-      next = resizes (expanded (s .width) (s .height) q (w .sheet)) _
-          (λ i j k l. rw (← inv .agree .width, ← inv .agree .height) (expanded-copper (s .width) (s .height) i j k l q (w .sheet) (b .copper) same))
-          (eqb sizeA 0) refl;
-    }
+    expand-step =
+        quiet-step (expand q scratch) (resize-quiet s (w .sheet) (w .map) scratch q) tt
+        (resize-inv _ _ (λ i j k l. rw (← inv .agree .width, ← inv .agree .height) (expanded-copper (s .width) (s .height) i j k l q (w .sheet) (b .copper) same)))
 
     pub shrink-step : Step (shrink q scratch) b w
-    shrink-step = record {
-      claim = record { safe = λ e. tt; fair = λ e. no-34 (resize-quiet s (w .sheet) (w .map) scratch q) e };
-      next = resizes (shrunk (s .width) (s .height) q (w .sheet)) _
-          (λ i j k l. rw (← inv .agree .width, ← inv .agree .height) (shrunk-copper (s .width) (s .height) i j k l q (w .sheet) (b .copper) same))
-          (eqb sizeA 0) refl;
-    }
+    shrink-step =
+        quiet-step (shrink q scratch) (resize-quiet s (w .sheet) (w .map) scratch q) tt
+        (resize-inv _ _ (λ i j k l. rw (← inv .agree .width, ← inv .agree .height) (shrunk-copper (s .width) (s .height) i j k l q (w .sheet) (b .copper) same)))
 
   -- ---- calls that change nothing here
 
-  reads : {a : ℕ} → Quiet a → Inv (cond (eqb a 0) b (cond (eqb a 35) (recoppered (b .copper) b) b)) w
-  reads {a} q = go (eqb a 0)
-    where
-      go : (t : Bool) → Inv (cond t b (cond (eqb a 35) (recoppered (b .copper) b) b)) w
-      go true = inv
-      go false = rw (q .no-35) inv
-
   pub skeleton-step : (out : List ℕ) → Step (skeleton out) b w
-  skeleton-step out =
-      let quiet = read-quiet s (w .map) (session.notSheet s out) in
-      record { claim = record { safe = λ e. tt; fair = λ e. no-34 quiet e }; next = reads quiet }
+  skeleton-step out = quiet-step (skeleton out) (read-quiet s (w .map) (session.notSheet s out)) tt (λ e. inv)
 
   pub rebuild-step : (marks out : List ℕ) → Step (rebuild marks out) b w
-  rebuild-step marks out =
-      let quiet = read-quiet s (w .map) (session.notSheet s marks || session.notSheet s out) in
-      record { claim = record { safe = λ e. tt; fair = λ e. no-34 quiet e }; next = reads quiet }
+  rebuild-step marks out = quiet-step (rebuild marks out) (read-quiet s (w .map) (session.notSheet s marks || session.notSheet s out)) tt (λ e. inv)
 
   pub aside-step : Step aside b w
-  aside-step = record { claim = record { safe = λ e. tt; fair = λ e. absurd (omega arith) }; next = inv }
-
-  -- ---- lift
-
-  pub lift-step : Step lift b w
-  lift-step = record {
-    claim = record { safe = λ e. tt; fair = λ e. absurd (omega arith) };
-    next = rw (inv .fine) (record {
-      agree = record {
-        width = inv .agree .width;
-        height = inv .agree .height;
-        engine = inv .agree .engine;
-        cutter = refl;
-        opened = inv .agree .opened;
-        current = inv .agree .current;
-        copper = same;
-      };
-      fine = up-sound s (inv .fine);
-      built = λ e. let m = inv .built e in record { whole = m .whole; map-is = m .map-is };
-      stands = λ e. absurd (true≢false (sym e));
-    });
-  }
+  aside-step = quiet-step aside (record { no-34 = refl; no-35 = refl }) tt (λ e. inv)
 
   -- ---- build
 
@@ -226,31 +172,15 @@ module _ {b : Board} {w : World} (inv : Inv b w) where
     abbrev refusal : ℕ
     refusal = session.buildRefusal s (w .sheet) (w .map) scratch e
 
-    built-inv : Building s (w .sheet) (w .map) scratch e → Inv (done (build e scratch) b) (world (builtBy e s) (w .sheet) (session.mapOf s (w .sheet) e))
-    built-inv g = record {
-      agree = record {
-        width = inv .agree .width;
-        height = inv .agree .height;
-        engine = refl;
-        cutter = refl;
-        opened = subst (λ (n : ℕ). true ≡ not (eqb n 0)) (inv .agree .width) (opens s (g .open-sheet));
-        current = rw (ne-eqb e 0 (omega (arith, leb-true 1 e (and-left (leb 1 e) _ (g .known)))));
-        copper = same;
-      };
-      fine = built-sound s (g .open-sheet) e (g .known);
-      built = λ c. record { whole = g .held; map-is = refl };
-      stands = λ c. absurd (true≢false (sym c));
-    }
+    granted : refusal ≡ 0 → Building s (w .sheet) (w .map) scratch e
+    granted = build-granted s (w .sheet) (w .map) scratch e refl
 
-    builds : (t u : Bool) → eqb (lastOf refusal over 35) 0 ≡ t → eqb (lastOf refusal over 35) 35 ≡ u
-        → Inv (cond t (done (build e scratch) b) (cond u (recoppered (b .copper) b) b))
-        (world (cond t (builtBy e s) (cond u (stale s) s)) (w .sheet) (cond t (session.mapOf s (w .sheet) e) (cond u (unmapped (w .map)) (w .map))))
-    builds true u p q =
-        built-inv (build-granted s (w .sheet) (w .map) scratch e refl (last-done refusal over 35 (omega arith) (eqb-true _ 0 p) .0))
-    builds false true p q =
-        let r = last-holds refusal over 35 (omega arith) (build-quiet s (w .sheet) (w .map) scratch e .no-35) (eqb-true _ 35 q) in
-        stale-inv inv (build-granted s (w .sheet) (w .map) scratch e refl (r .0) .open-sheet) (w .sheet) (unmapped (w .map)) (b .copper) same
-    builds false false p q = inv
+    built-inv : Building s (w .sheet) (w .map) scratch e → Inv (done (build e scratch) b) (world (builtBy e s) (w .sheet) (session.mapOf s (w .sheet) e))
+    built-inv g =
+        rw (← inv .agree .width, ← inv .agree .height)
+        (up-inv (s .width) (s .height) e true (b .copper) (w .sheet) (session.mapOf s (w .sheet) e) (built-sound s (g .open-sheet) e (g .known))
+        (rw (ne-eqb e 0 (omega (arith, leb-true 1 e (and-left (leb 1 e) _ (g .known)))))) same
+        (λ c. record { whole = g .held; map-is = refl }))
 
     pub build-step : Step (build e scratch) b w
     unfolding buildAnswer
@@ -259,70 +189,72 @@ module _ {b : Board} {w : World} (inv : Inv b w) where
         safe = λ p. tt;
         fair = λ p. eqb-false _ 34 (last-never refusal over 35 (omega arith) 34 (omega arith) (build-quiet s (w .sheet) (w .map) scratch e .no-34) refl) p;
       };
-      next = builds (eqb (lastOf refusal over 35) 0) (eqb (lastOf refusal over 35) 35) refl refl;
+      next = after-inv (build e scratch)
+          (λ p. built-inv (granted (last-done refusal over 35 (omega arith) p .0)))
+          (λ p. let r = last-holds refusal over 35 (omega arith) (build-quiet s (w .sheet) (w .map) scratch e .no-35) p in
+          stale-inv (granted (r .0) .open-sheet) (w .sheet) (unmapped (w .map)) (b .copper) same);
     }
 
-  -- ---- place
+  -- ---- lift, place and run: the cutter alone changes
 
-  module _ (x y q : ℕ) where
-    abbrev placing : ℕ
-    placing = session.placeRefusal s (w .map) x y q
+  cutter-inv : (l : Bool) (x y q : ℕ) (k : Cutter) → SameCutter k (cutterAs l x y q s) → sound (cutterAs l x y q s) ≡ true
+      → (l ≡ true → Clear (copperOf (w .sheet) (s .width)) (s .width) (s .height) x y q)
+      → Inv (withCutter k b) (world (cutterAs l x y q s) (w .sheet) (w .map))
+  cutter-inv l x y q k as-said fine clear = record {
+    agree = record {
+      width = inv .agree .width;
+      height = inv .agree .height;
+      engine = inv .agree .engine;
+      cutter = as-said;
+      opened = inv .agree .opened;
+      current = inv .agree .current;
+      copper = same;
+    };
+    fine = fine;
+    built = λ c. let m = inv .built c in record { whole = m .whole; map-is = m .map-is };
+    stands = clear;
+  }
 
-    abbrev passing : Bool
-    passing = session.passesAt (s .engine) (w .map) (index (s .width) x y) q
+  pub lift-step : Step lift b w
+  lift-step =
+      quiet-step lift (record { no-34 = refl; no-35 = refl }) tt
+      (λ e. rw (inv .fine) (cutter-inv false 0 0 0 up refl (up-sound s (inv .fine)) (λ l. absurd (true≢false (sym l)))))
 
-    abbrev placeA : ℕ
-    placeA = lastOf placing (not passing) 34
+  -- ---- place and run: the gates, which give 34
 
-    place-free : placeA ≡ 0 → Clear (copperOf (w .sheet) (s .width)) (s .width) (s .height) x y q
-    place-free p =
-        let r = last-done placing (not passing) 34 (omega arith) p in
-        let g = place-granted s (w .map) x y q refl (r .0) in
-        passed-clear inv (g .open-sheet) (g .current) x y q (g .across) (g .down) (not-false passing (r .1))
+  gate-step : (c : Call) (refusal : ℕ) (stops : Bool) → answer c w ≡ lastOf refusal stops 34 → Quiet refusal
+      → (refusal ≡ 0 → stops ≡ false → Safe c b × Inv (done c b) (left c 0 w))
+      → (refusal ≡ 0 → stops ≡ true → Fair c b)
+      → Step c b w
+  gate-step c refusal stops table quiet goes fair = record {
+    claim = record {
+      safe = λ e. go e .0;
+      fair = λ e. let r = last-holds refusal stops 34 (omega arith) (quiet .no-34) (sym table ∙ e) in fair (r .0) (r .1);
+    };
+    next = after-inv c (λ e. go e .1)
+        (λ e. absurd (eqb-false _ 35 (last-never refusal stops 34 (omega arith) 35 (omega arith) (quiet .no-35) refl) (sym table ∙ e)));
+  }
+    where
+      go : answer c w ≡ 0 → Safe c b × Inv (done c b) (left c 0 w)
+      go e = let r = last-done refusal stops 34 (omega arith) (sym table ∙ e) in goes (r .0) (r .1)
 
-    places : (t : Bool) → eqb placeA 0 ≡ t
-        → Inv (cond t (withCutter (down x y q) b) (cond (eqb placeA 35) (recoppered (b .copper) b) b)) (world (cond t (downAt x y q s) s) (w .sheet) (w .map))
-    places true p =
-        let g = place-granted s (w .map) x y q refl (last-done placing (not passing) 34 (omega arith) (eqb-true placeA 0 p) .0) in record {
-          agree = record {
-            width = inv .agree .width;
-            height = inv .agree .height;
-            engine = inv .agree .engine;
-            cutter = (refl, (refl, (refl, refl)));
-            opened = inv .agree .opened;
-            current = inv .agree .current;
-            copper = same;
-          };
-          fine = down-sound s (inv .fine) x y q (g .current) (g .across) (g .down) (g .small);
-          built = λ c. let m = inv .built c in record { whole = m .whole; map-is = m .map-is };
-          stands = λ c. place-free (eqb-true placeA 0 p);
-        }
-    places false p = rw (last-never placing (not passing) 34 (omega arith) 35 (omega arith) (place-quiet s (w .map) x y q .no-35) refl) inv
-
-    place-fair : placeA ≡ 34 → Close b q x y
-    place-fair p =
-        let r = last-holds placing (not passing) 34 (omega arith) (place-quiet s (w .map) x y q .no-34) p in
-        let g = place-granted s (w .map) x y q refl (r .0) in
-        failed-close inv (g .open-sheet) (g .current) x y q (g .across) (g .down) (not-true passing (r .1))
-
-    pub place-step : Step (place x y q) b w
-    unfolding placeAnswer
-    place-step = record { claim = record { safe = λ p. above inv q x y (place-free p); fair = place-fair }; next = places (eqb placeA 0) refl }
-
-  -- ---- run
+  pub place-step : (x y q : ℕ) → Step (place x y q) b w
+  unfolding placeAnswer
+  place-step x y q =
+      gate-step (place x y q) (session.placeRefusal s (w .map) x y q) (not (session.passesAt (s .engine) (w .map) (index (s .width) x y) q)) refl
+      (place-quiet s (w .map) x y q)
+      (λ z p.
+      let g = place-granted s (w .map) x y q refl z in
+      let free = passed-clear inv (g .open-sheet) (g .current) x y q (g .across) (g .down) (not-false _ p) in (
+        above inv q x y free,
+        cutter-inv true x y q (down x y q) (refl, (refl, (refl, refl)))
+            (down-sound s (inv .fine) x y q (g .current) (g .across) (g .down) (g .small)) (λ l. free),
+      ))
+      (λ z p. let g = place-granted s (w .map) x y q refl z in failed-close inv (g .open-sheet) (g .current) x y q (g .across) (g .down) (not-true _ p))
 
   module _ (d n : ℕ) where
-    abbrev running : ℕ
-    running = session.runRefusal s (w .map) d n
-
     abbrev stops : Bool
     stops = blocked s (w .map) d n
-
-    abbrev runA : ℕ
-    runA = lastOf running stops 34
-
-    granted : running ≡ 0 → Running s (w .map) d n
-    granted = run-granted s (w .map) d n refl
 
     -- each step of a run that is done ends free of copper
     frees : Running s (w .map) d n → stops ≡ false → (i : ℕ) → 1 ≤ i → i ≤ n → Free w (columnAfter d i (s .x)) (rowAfter d i (s .y))
@@ -334,11 +266,7 @@ module _ {b : Board} {w : World} (inv : Inv b w) where
         some-false n (λ j. not (session.passesAfter s (w .map) d (j + 1))) (i - 1) none (omega arith)
         in
         let p : session.passesAfter s (w .map) d i ≡ true = not-false _ (rw k at f) in
-        passed-clear inv (g .open-sheet) (g .cutter .current) (columnAfter d i (s .x)) (rowAfter d i (s .y)) (s .q)
-        (o .end .0) (o .end .1) p
-
-    pub run-free : runA ≡ 0 → (i : ℕ) → 1 ≤ i → i ≤ n → Free w (columnAfter d i (s .x)) (rowAfter d i (s .y))
-    run-free p = let r = last-done running stops 34 (omega arith) p in frees (granted (r .0)) (r .1)
+        passed-clear inv (g .open-sheet) (g .cutter .current) (columnAfter d i (s .x)) (rowAfter d i (s .y)) (s .q) (o .end .0) (o .end .1) p
 
     along : (k : Cutter) → SameCutter k s → ((i : ℕ) → 1 ≤ i → i ≤ n → Free w (columnAfter d i (s .x)) (rowAfter d i (s .y))) → Along b d n k
     along up e f = tt
@@ -364,36 +292,19 @@ module _ {b : Board} {w : World} (inv : Inv b w) where
     moves up e l = absurd (true≢false (sym l ∙ e))
     moves (down x y q) (l, (a, (c, e))) m = (refl, (ap (columnAfter d n) a, (ap (rowAfter d n) c, e)))
 
-    runs : (t : Bool) → eqb runA 0 ≡ t
-        → Inv (cond t (withCutter (moved d n (b .cutter)) b) (cond (eqb runA 35) (recoppered (b .copper) b) b))
-        (world (cond t (session.runSession s d n) s) (w .sheet) (w .map))
-    runs true p =
-        let r = last-done running stops 34 (omega arith) (eqb-true runA 0 p) in
-        let g = granted (r .0) in record {
-          agree = record {
-            width = inv .agree .width;
-            height = inv .agree .height;
-            engine = inv .agree .engine;
-            cutter = moves (b .cutter) (inv .agree .cutter) (g .lowered);
-            opened = inv .agree .opened;
-            current = inv .agree .current;
-            copper = same;
-          };
-          fine =
-              down-sound s (inv .fine) (columnAfter d n (s .x)) (rowAfter d n (s .y)) (s .q) (g .cutter .current)
-              (g .on .end .0) (g .on .end .1) (g .cutter .small);
-          built = λ c. let m = inv .built c in record { whole = m .whole; map-is = m .map-is };
-          stands = λ c. frees g (r .1) n (g .steps) (omega arith);
-        }
-    runs false p = rw (last-never running stops 34 (omega arith) 35 (omega arith) (run-quiet s (w .map) d n .no-35) refl) inv
-
     pub run-step : Step (run d n) b w
     unfolding runAnswer
-    run-step = record {
-      claim = record {
-        safe = λ p. along (b .cutter) (inv .agree .cutter) (run-free p);
-        fair = λ p. let r = last-holds running stops 34 (omega arith) (run-quiet s (w .map) d n .no-34) p in
-            stopped (b .cutter) (inv .agree .cutter) (granted (r .0)) (r .1);
-      };
-      next = runs (eqb runA 0) refl;
-    }
+    run-step =
+        gate-step (run d n) (session.runRefusal s (w .map) d n) stops refl (run-quiet s (w .map) d n)
+        (λ z p.
+        let g = run-granted s (w .map) d n refl z in (
+          along (b .cutter) (inv .agree .cutter) (frees g p),
+          cutter-inv true (columnAfter d n (s .x)) (rowAfter d n (s .y)) (s .q) (moved d n (b .cutter)) (moves (b .cutter) (inv .agree .cutter) (g .lowered))
+              (down-sound s (inv .fine) (columnAfter d n (s .x)) (rowAfter d n (s .y)) (s .q) (g .cutter .current) (g .on .end .0) (g .on .end .1) (g .cutter .small))
+              (λ l. frees g p n (g .steps) (omega arith)),
+        ))
+        (λ z p. stopped (b .cutter) (inv .agree .cutter) (run-granted s (w .map) d n refl z) p)
+
+    pub run-free : runAnswer s (w .map) d n ≡ 0 → (i : ℕ) → 1 ≤ i → i ≤ n → Free w (columnAfter d i (s .x)) (rowAfter d i (s .y))
+    unfolding runAnswer
+    run-free e = let r = last-done (session.runRefusal s (w .map) d n) stops 34 (omega arith) e in frees (run-granted s (w .map) d n refl (r .0)) (r .1)

@@ -7,7 +7,6 @@ use Prim.Native.Nat.{ℕ}
 use native.Mathlib.Omega.{arith}
 use lib.IntN.{ℤ}
 use Rattle.session.specs.State.{fresh, cutterSound, mapSound, sheetSound, sound}
-use Rattle.session.specs.Calls.{runAnswer}
 use Rattle.guarantee.specs.Board.{Call, opening, paint, erase, build, place, run, lift, expand, shrink, skeleton, rebuild, aside, Board, blank}
 use Rattle.guarantee.specs.World.{World, world}
 use Rattle.guarantee.specs.Claims.{Holds, Guarantee, leftBy, Workshop}
@@ -74,7 +73,6 @@ left (c ∷ cs) inv = left cs (step c inv .next)
 
 -- whatever list of calls: no lowered cutter stands on or passes a pixel within q of copper
 pub workshop : Workshop
-unfolding runAnswer
 workshop cs sheet map lowered =
     let l = left cs (start sheet map) in
     (l .inv .stands lowered, λ d n done. run-free (l .inv) d n done)

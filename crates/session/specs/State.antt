@@ -51,10 +51,14 @@ stale s = openedAs (s .width) (s .height)
 abbrev pub builtBy : (engine : ℕ) → Session → Session
 builtBy e s = record { opened = true; width = s .width; height = s .height; current = true; engine = e; lowered = false; x = 0; y = 0; q = 0 }
 
--- the cutter is down at (x, y) with q
-abbrev pub downAt : (x y q : ℕ) → Session → Session
-downAt x y q s = record { opened = s .opened; width = s .width; height = s .height; current = s .current; engine = s .engine; lowered = true; x = x; y = y; q = q }
+-- the cutter as said, all else as it was
+abbrev pub cutterAs : (lowered : Bool) (x y q : ℕ) → Session → Session
+cutterAs l x y q s = record { opened = s .opened; width = s .width; height = s .height; current = s .current; engine = s .engine; lowered = l; x = x; y = y; q = q }
 
--- the cutter is up
+-- it is down at (x, y) with q
+abbrev pub downAt : (x y q : ℕ) → Session → Session
+downAt = cutterAs true
+
+-- it is up
 abbrev pub upOf : Session → Session
-upOf s = record { opened = s .opened; width = s .width; height = s .height; current = s .current; engine = s .engine; lowered = false; x = 0; y = 0; q = 0 }
+upOf = cutterAs false 0 0 0
