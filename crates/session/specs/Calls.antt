@@ -25,12 +25,16 @@ use Rattle.session.specs.Directions.{columnAfter, rowAfter, walk, isPixe
 abbrev pub onDone : {A : Type 0} → (answer : ℕ) → A → A → A
 onDone a new old = cond (eqb a 0) new old
 
+-- a slice of two numbers a pixel
+abbrev pub isMap : Session → List ℤ → Bool
+isMap s map = eqb (length map) (2 * (s .height * s .width))
+
 -- a slice of other than one byte a pixel; of other than two numbers a pixel; of too few numbers
 abbrev pub notSheet : Session → List ℕ → Bool
 notSheet s sheet = not (eqb (length sheet) (s .height * s .width))
 
 abbrev pub notMap : Session → List ℤ → Bool
-notMap s map = not (eqb (length map) (2 * (s .height * s .width)))
+notMap s map = not (isMap s map)
 
 abbrev pub shortScratch : Session → List ℤ → Bool
 shortScratch s scratch = ltb (length scratch) (s .height * s .width)
@@ -173,7 +177,7 @@ rebuildAnswer s map marks out = readAnswer s map (notSheet s marks || notSheet s
 -- ---- map row y: the part of the map that holds it; an empty part with nothing open, y not below H, or a map of a wrong length
 
 abbrev pub hasRow : Session → List ℤ → (y : ℕ) → Bool
-hasRow s map y = active s && (ltb y (s .height) && eqb (length map) (2 * (s .height * s .width)))
+hasRow s map y = active s && (ltb y (s .height) && isMap s map)
 
 abbrev pub rowOf : Session → List ℤ → (y : ℕ) → List ℤ
 rowOf s map y = cond (hasRow s map y) (take (2 * s .width) (drop (2 * (y * s .width)) map)) []

@@ -14,6 +14,7 @@ ghost use Rattle.session.specs.State.{fresh, side, cutterSound, mapSound
 ghost use Rattle.session.specs.Directions.{stepRight, stepDown, along, leaves, columnAfter, rowAfter};
 ghost use Rattle.session.specs.Calls.{
   onDone,
+  isMap,
   openAnswer,
   fillAnswer,
   filledBy,
@@ -180,6 +181,12 @@ fn pixels_of(s: Session) -> usize
     (s.height as usize) * (s.width as usize)
 }
 
+fn is_map(s: Session, map: &[i16]) -> bool
+    ensures { λ r. ⌜ r ≡ isMap s (now (map .entry)) ⌝ }
+{
+    map.len() == 2 * pixels_of(s)
+}
+
 fn open_answer(sheet: &[u8], w: u16, h: u16) -> u32
     ensures { λ r. ⌜ r ≡ openAnswer (now (sheet .entry)) w h ⌝ }
 {
@@ -218,7 +225,7 @@ fn build_refusal(s: Session, sheet: &[u8], map: &[i16], scratch: &[i16], engine:
     }
     let n = pixels_of(s);
     let short = (engine == 1) & (scratch.len() < n);
-    let slices = (sheet.len() != n) | ((map.len() != 2 * n) | short);
+    let slices = (sheet.len() != n) | (!is_map(s, map) | short);
     let unknown = !((1 <= engine) & (engine <= 3));
     if slices {
         return 12;
@@ -235,7 +242,7 @@ fn place_refusal(s: Session, map: &[i16], x: u16, y: u16, q: u32) -> u32
     if !is_active(s) {
         return 30;
     }
-    if map.len() != 2 * pixels_of(s) {
+    if !is_map(s, map) {
         return 12;
     }
     if Session::MAX_Q < q {
@@ -256,7 +263,7 @@ fn run_refusal(s: Session, map: &[i16], d: u16, n: u16) -> u32
     if !is_active(s) {
         return 30;
     }
-    if map.len() != 2 * pixels_of(s) {
+    if !is_map(s, map) {
         return 12;
     }
     if (7 < d) | !((1 <= n) & (n <= Session::MAX_COUNT)) {
@@ -280,7 +287,7 @@ fn resize_answer(s: Session, sheet: &[u8], map: &[i16], scratch: &[i16], q: u32)
         return 30;
     }
     let n = pixels_of(s);
-    if (sheet.len() != n) | ((map.len() != 2 * n) | (scratch.len() < n)) {
+    if (sheet.len() != n) | (!is_map(s, map) | (scratch.len() < n)) {
         return 12;
     }
     if Session::MAX_Q < q {
@@ -295,8 +302,7 @@ fn read_answer(s: Session, map: &[i16], wrong: bool) -> u32
     if !is_active(s) {
         return 30;
     }
-    let n = pixels_of(s);
-    if (map.len() != 2 * n) | wrong {
+    if !is_map(s, map) | wrong {
         return 12;
     }
     if !s.current {
@@ -305,7 +311,7 @@ fn read_answer(s: Session, map: &[i16], wrong: bool) -> u32
     if s.engine != 1 {
         return 36;
     }
-    if !raster::has_copper(map, n) {
+    if !raster::has_copper(map, pixels_of(s)) {
         return 37;
     }
     0
@@ -343,7 +349,7 @@ fn passes_at(s: Session, map: &[i16], x: usize, y: usize, q: u32) -> bool
 fn has_row(s: Session, map: &[i16], y: u16) -> bool
     ensures { λ r. ⌜ r ≡ hasRow s (now (map .entry)) y ⌝ }
 {
-    is_active(s) & ((y < s.height) & (map.len() == 2 * pixels_of(s)))
+    is_active(s) & ((y < s.height) & is_map(s, map))
 }
 
 // ---- the directions

@@ -2,14 +2,11 @@
 -- Assumes nothing.
 use mathlib.Core.Path.{_≡_}
 use mathlib.Core.Bool.{false, not, _&&_, _||_}
-use native.Mathlib.Omega.{arith}
 use lib.Dec.{eqb}
 use borrow.Author.Needs.{needs}
-use borrow.Author.Tests.{not-false}
 use Rattle.raster.specs.Refusal.{firstOf}
 use Rattle.session.specs.State.{active}
 use Rattle.session.specs.Calls.{notSheet, notMap, shortScratch, buildRefusal}
-use Rattle.session.proofs.Granted.{active-limits}
 use Rattle.session.proofs.build_refusal.Statement.{statement}
 use Rattle.session.proofs.build_refusal.Tie as tie
 
@@ -21,28 +18,25 @@ returns c = simp (rw (c .before .is-active .ensures) at (c .if1 .taken))
 fine : (c : tie.Else1) → not (active (c .before .before .before .args .s)) ≡ false
 fine c = rw (c .before .is-active .ensures) at (c .if1 .left)
 
-mul-slices : tie.Need-mul-slices
-mul-slices c = omega (arith, active-limits (c .before .before .before .before .args .s) (not-false _ (fine (c .before))) .pixels)
-
 returns-2 : tie.Need-returns-2
 unfolding buildRefusal firstOf
 returns-2 c =
-    let p = c .before in simp (fine (p .before), rw (p .pixels-of .ensures) at (c .if2 .taken))
+    let m = c .before in simp (fine (m .before .before), rw (m .before .pixels-of .ensures, m .is-map .ensures) at (c .if2 .taken))
 
 -- past the second
-sized : (c : tie.Else2) → let a = c .before .before .before .before .before .args in
+sized : (c : tie.Else2) → let a = c .before .before .before .before .before .before .args in
     notSheet (a .s) (a .sheet .now) || (notMap (a .s) (a .map .now) || (eqb (a .engine) 1 && shortScratch (a .s) (a .scratch .now))) ≡ false
-sized c = rw (c .before .pixels-of .ensures) at (c .if2 .left)
+sized c = rw (c .before .before .pixels-of .ensures, c .before .is-map .ensures) at (c .if2 .left)
 
 returns-3 : tie.Need-returns-3
 unfolding buildRefusal firstOf
-returns-3 c = let e = c .before in simp (fine (e .before .before), sized e, c .if3 .taken)
+returns-3 c = let e = c .before in simp (fine (e .before .before .before), sized e, c .if3 .taken)
 
 returns-4 : tie.Need-returns-4
 unfolding buildRefusal firstOf
-returns-4 c = let e = c .before in simp (fine (e .before .before), sized e, c .if3 .left)
+returns-4 c = let e = c .before in simp (fine (e .before .before .before), sized e, c .if3 .left)
 
 pub build-refusal-spec : {M : Type 1} → statement M
 build-refusal-spec =
     tie.close
-    (tie.spec (λ c κs. search needs) returns (λ c κs. search needs) mul-slices returns-2 returns-3 returns-4)
+    (tie.spec (λ c κs. search needs) returns (λ c κs. search needs) (λ c κs. search needs) returns-2 returns-3 returns-4)

@@ -1,17 +1,12 @@
 -- `session::place_refusal` meets its contract: each return rewrites by the tests that led there.
 -- Assumes nothing.
 use mathlib.Core.Path.{_≡_}
-use mathlib.Core.Bool.{true, false, not}
-use Prim.Native.Nat.{_*_}
-use native.Mathlib.Omega.{arith}
-use lib.Dec.{eqb}
-use lib.ListN.{length}
+use mathlib.Core.Bool.{false, not}
 use borrow.Author.Needs.{needs}
-use borrow.Author.Tests.{eq-eqb, ne-eqb, lt-ltb, le-ltb, not-false}
+use borrow.Author.Tests.{lt-ltb, le-ltb}
 use Rattle.raster.specs.Refusal.{firstOf}
 use Rattle.session.specs.State.{active}
-use Rattle.session.specs.Calls.{placeRefusal}
-use Rattle.session.proofs.Granted.{active-limits}
+use Rattle.session.specs.Calls.{notMap, placeRefusal}
 use Rattle.session.proofs.place_refusal.Statement.{statement}
 use Rattle.session.proofs.place_refusal.Tie as tie
 
@@ -23,17 +18,13 @@ returns c = simp (rw (c .before .is-active .ensures) at (c .if1 .taken))
 fine : (c : tie.Else1) → not (active (c .before .before .args .s)) ≡ false
 fine c = rw (c .before .is-active .ensures) at (c .if1 .left)
 
-mul-if2 : tie.Need-mul-if2
-mul-if2 c = omega (arith, active-limits (c .before .before .before .args .s) (not-false _ (fine (c .before))) .pixels)
-
 returns-2 : tie.Need-returns-2
 unfolding placeRefusal firstOf
-returns-2 c =
-    let p = c .before in simp (fine (p .before), rw (p .pixels-of .ensures) at (ne-eqb _ _ (c .if2 .taken)))
+returns-2 c = simp (fine (c .before .before), rw (c .before .is-map .ensures) at (c .if2 .taken))
 
 -- past the second
-sized : (c : tie.Else2) → let a = c .before .before .before .before .args in eqb (length (a .map .now)) (2 * (a .s .height * a .s .width)) ≡ true
-sized c = rw (c .before .pixels-of .ensures) at (eq-eqb _ _ (c .if2 .left))
+sized : (c : tie.Else2) → let a = c .before .before .before .before .args in notMap (a .s) (a .map .now) ≡ false
+sized c = rw (c .before .is-map .ensures) at (c .if2 .left)
 
 returns-3 : tie.Need-returns-3
 unfolding placeRefusal firstOf
@@ -66,7 +57,6 @@ place-refusal-spec =
     (λ c κs. search needs)
     returns
     (λ c κs. search needs)
-    mul-if2
     returns-2
     returns-3
     returns-4

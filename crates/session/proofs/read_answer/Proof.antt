@@ -11,7 +11,6 @@ use Rattle.raster.specs.Refusal.{firstOf}
 use Rattle.raster.specs.Tests.{or-left}
 use Rattle.session.specs.State.{active}
 use Rattle.session.specs.Calls.{notMap, readAnswer}
-use Rattle.session.proofs.Granted.{active-limits}
 use Rattle.session.proofs.read_answer.Statement.{statement}
 use Rattle.session.proofs.read_answer.Tie as tie
 
@@ -23,17 +22,14 @@ returns c = simp (rw (c .before .is-active .ensures) at (c .if1 .taken))
 fine : (c : tie.Else1) → not (active (c .before .before .args .s)) ≡ false
 fine c = rw (c .before .is-active .ensures) at (c .if1 .left)
 
-mul-if2 : tie.Need-mul-if2
-mul-if2 c = omega (arith, active-limits (c .before .before .before .args .s) (not-false _ (fine (c .before))) .pixels)
-
 returns-2 : tie.Need-returns-2
 unfolding readAnswer firstOf
 returns-2 c =
-    let p = c .before in simp (fine (p .before), rw (p .pixels-of .ensures) at (c .if2 .taken))
+    let m = c .before in simp (fine (m .before), rw (m .is-map .ensures) at (c .if2 .taken))
 
 -- past the second
 sized : (c : tie.Else2) → let a = c .before .before .before .before .args in notMap (a .s) (a .map .now) || a .wrong ≡ false
-sized c = rw (c .before .pixels-of .ensures) at (c .if2 .left)
+sized c = rw (c .before .is-map .ensures) at (c .if2 .left)
 
 returns-3 : tie.Need-returns-3
 unfolding readAnswer firstOf
@@ -47,27 +43,29 @@ returns-4 c =
 
 has-copper-requires : tie.Need-has-copper-requires
 has-copper-requires c κs =
-    let e = c .before .before .before .before in
+    let e = c .before .before .before .before .before in
     let a = e .before .before .before .before .args in
     let long : length (a .map .now) ≡ 2 * (a .s .height * a .s .width) = eqb-true _ _ (not-false _ (or-left (notMap (a .s) (a .map .now)) _ (sized e))) in
-    omega (arith, e .before .pixels-of .ensures, long)
+    omega (arith, c .pixels-of .ensures, long)
 
 -- past the fourth, with what the map holds
 returns-5 : tie.Need-returns-5
 unfolding readAnswer firstOf
 returns-5 c =
-    let k = c .before .before in
+    let p = c .before .before in
+    let k = p .before in
     let m = k .before .before in
     let e = m .before .before in
-    simp (fine (e .before .before), sized e, m .if3 .left, eq-eqb _ 1 (k .if4 .left), rw (c .before .has-copper .ensures, e .before .pixels-of .ensures) at (c .if5 .taken))
+    simp (fine (e .before .before), sized e, m .if3 .left, eq-eqb _ 1 (k .if4 .left), rw (c .before .has-copper .ensures, p .pixels-of .ensures) at (c .if5 .taken))
 
 returns-6 : tie.Need-returns-6
 unfolding readAnswer firstOf
 returns-6 c =
-    let k = c .before .before in
+    let p = c .before .before in
+    let k = p .before in
     let m = k .before .before in
     let e = m .before .before in
-    simp (fine (e .before .before), sized e, m .if3 .left, eq-eqb _ 1 (k .if4 .left), rw (c .before .has-copper .ensures, e .before .pixels-of .ensures) at (c .if5 .left))
+    simp (fine (e .before .before), sized e, m .if3 .left, eq-eqb _ 1 (k .if4 .left), rw (c .before .has-copper .ensures, p .pixels-of .ensures) at (c .if5 .left))
 
 pub read-answer-spec : {M : Type 1} → statement M
 read-answer-spec =
@@ -76,10 +74,10 @@ read-answer-spec =
     (λ c κs. search needs)
     returns
     (λ c κs. search needs)
-    mul-if2
     returns-2
     returns-3
     returns-4
+    (λ c κs. search needs)
     has-copper-requires
     returns-5
     returns-6)

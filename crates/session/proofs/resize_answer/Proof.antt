@@ -2,13 +2,11 @@
 -- Assumes nothing.
 use mathlib.Core.Path.{_≡_}
 use mathlib.Core.Bool.{false, not, _||_}
-use native.Mathlib.Omega.{arith}
 use borrow.Author.Needs.{needs}
-use borrow.Author.Tests.{lt-ltb, le-ltb, not-false}
+use borrow.Author.Tests.{lt-ltb, le-ltb}
 use Rattle.raster.specs.Refusal.{firstOf}
 use Rattle.session.specs.State.{active}
 use Rattle.session.specs.Calls.{notSheet, notMap, shortScratch, resizeAnswer}
-use Rattle.session.proofs.Granted.{active-limits}
 use Rattle.session.proofs.resize_answer.Statement.{statement}
 use Rattle.session.proofs.resize_answer.Tie as tie
 
@@ -20,26 +18,23 @@ returns c = simp (rw (c .before .is-active .ensures) at (c .if1 .taken))
 fine : (c : tie.Else1) → not (active (c .before .before .before .args .s)) ≡ false
 fine c = rw (c .before .is-active .ensures) at (c .if1 .left)
 
-mul-if2 : tie.Need-mul-if2
-mul-if2 c = omega (arith, active-limits (c .before .before .before .before .args .s) (not-false _ (fine (c .before))) .pixels)
-
 returns-2 : tie.Need-returns-2
 unfolding resizeAnswer firstOf
 returns-2 c =
-    let p = c .before in simp (fine (p .before), rw (p .pixels-of .ensures) at (c .if2 .taken))
+    let m = c .before in simp (fine (m .before .before), rw (m .before .pixels-of .ensures, m .is-map .ensures) at (c .if2 .taken))
 
 -- past the second
-sized : (c : tie.Else2) → let a = c .before .before .before .before .before .args in
+sized : (c : tie.Else2) → let a = c .before .before .before .before .before .before .args in
     notSheet (a .s) (a .sheet .now) || (notMap (a .s) (a .map .now) || shortScratch (a .s) (a .scratch .now)) ≡ false
-sized c = rw (c .before .pixels-of .ensures) at (c .if2 .left)
+sized c = rw (c .before .before .pixels-of .ensures, c .before .is-map .ensures) at (c .if2 .left)
 
 returns-3 : tie.Need-returns-3
 unfolding resizeAnswer firstOf
-returns-3 c = let e = c .before in simp (fine (e .before .before), sized e, lt-ltb _ _ (c .if3 .taken))
+returns-3 c = let e = c .before in simp (fine (e .before .before .before), sized e, lt-ltb _ _ (c .if3 .taken))
 
 returns-4 : tie.Need-returns-4
 unfolding resizeAnswer firstOf
-returns-4 c = let e = c .before in simp (fine (e .before .before), sized e, le-ltb _ _ (c .if3 .left))
+returns-4 c = let e = c .before in simp (fine (e .before .before .before), sized e, le-ltb _ _ (c .if3 .left))
 
 pub resize-answer-spec : {M : Type 1} → statement M
 resize-answer-spec =
@@ -48,7 +43,7 @@ resize-answer-spec =
     (λ c κs. search needs)
     returns
     (λ c κs. search needs)
-    mul-if2
+    (λ c κs. search needs)
     returns-2
     returns-3
     returns-4)

@@ -1,19 +1,17 @@
 -- `session::run_refusal` meets its contract: each return rewrites by the tests that led there.
 -- Assumes nothing.
 use mathlib.Core.Path.{_≡_}
-use mathlib.Core.Bool.{true, false, not, _&&_, _||_}
-use Prim.Native.Nat.{_*_, _≤_}
-use native.Mathlib.Omega.{arith}
-use lib.Dec.{eqb, leb, ltb}
-use lib.ListN.{length}
+use mathlib.Core.Bool.{false, not, _&&_, _||_}
+use Prim.Native.Nat.{_≤_}
+use lib.Dec.{leb, ltb}
 use borrow.Author.Needs.{needs}
-use borrow.Author.Tests.{eq-eqb, ne-eqb, ltb-false, not-false}
+use borrow.Author.Tests.{ltb-false, not-false}
 use Rattle.raster.specs.Limits.{maxCount}
 use Rattle.raster.specs.Refusal.{firstOf}
 use Rattle.raster.specs.Tests.{and-right, or-left}
 use Rattle.session.specs.State.{active}
-use Rattle.session.specs.Calls.{strays, runRefusal}
-use Rattle.session.proofs.Granted.{active-limits, lowered-says}
+use Rattle.session.specs.Calls.{notMap, strays, runRefusal}
+use Rattle.session.proofs.Granted.{lowered-says}
 use Rattle.session.proofs.Signs.{leaving}
 use Rattle.session.proofs.Walk.{leaves-sheet}
 use Rattle.session.proofs.run_refusal.Statement.{statement}
@@ -27,17 +25,13 @@ returns c = simp (rw (c .before .is-active .ensures) at (c .if1 .taken))
 fine : (c : tie.Else1) → not (active (c .before .before .args .s)) ≡ false
 fine c = rw (c .before .is-active .ensures) at (c .if1 .left)
 
-mul-if2 : tie.Need-mul-if2
-mul-if2 c = omega (arith, active-limits (c .before .before .before .args .s) (not-false _ (fine (c .before))) .pixels)
-
 returns-2 : tie.Need-returns-2
 unfolding runRefusal firstOf
-returns-2 c =
-    let p = c .before in simp (fine (p .before), rw (p .pixels-of .ensures) at (ne-eqb _ _ (c .if2 .taken)))
+returns-2 c = simp (fine (c .before .before), rw (c .before .is-map .ensures) at (c .if2 .taken))
 
 -- past the second
-sized : (c : tie.Else2) → let a = c .before .before .before .before .args in eqb (length (a .map .now)) (2 * (a .s .height * a .s .width)) ≡ true
-sized c = rw (c .before .pixels-of .ensures) at (eq-eqb _ _ (c .if2 .left))
+sized : (c : tie.Else2) → let a = c .before .before .before .before .args in notMap (a .s) (a .map .now) ≡ false
+sized c = rw (c .before .is-map .ensures) at (c .if2 .left)
 
 returns-3 : tie.Need-returns-3
 unfolding runRefusal firstOf
@@ -95,7 +89,6 @@ run-refusal-spec =
     (λ c κs. search needs)
     returns
     (λ c κs. search needs)
-    mul-if2
     returns-2
     returns-3
     returns-4
