@@ -320,18 +320,18 @@ fn read_answer(s: Session, map: &[i16], wrong: bool) -> u32
 // ---- the gates
 
 // A labelled pixel of size a passes a cutter of q.
-fn is_past(engine: u16, a: u32, q: u32) -> bool
+fn passes_gate(engine: u16, a: u32, q: u32) -> bool
     ensures { λ r. ⌜ r ≡ passes (gateOf engine) a q ⌝ }
 {
     let size = a as usize;
-    let radius = q as usize;
+    let limit = q as usize;
     if engine == 1 {
-        return radius < size;
+        return limit < size;
     }
     if engine == 2 {
-        return 169 * radius < 144 * size;
+        return 169 * limit < 144 * size;
     }
-    2 * radius < size
+    2 * limit < size
 }
 
 // The pixel (x, y) passes it; an unlabelled one always does.
@@ -340,7 +340,7 @@ fn passes_at(s: Session, map: &[i16], x: usize, y: usize, q: u32) -> bool
     ensures { λ r. ⌜ r ≡ passesAt (s .engine) (now (map .entry)) (index (s .width) x y) q ⌝ }
 {
     let p = y * (s.width as usize) + x;
-    raster::unlabelled_at(map, p) | is_past(s.engine, raster::size_at(map, p), q)
+    raster::unlabelled_at(map, p) | passes_gate(s.engine, raster::size_at(map, p), q)
 }
 
 // ---- the map's rows

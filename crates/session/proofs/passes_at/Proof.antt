@@ -22,7 +22,7 @@ at c =
 
 returns : tie.Need-returns
 unfolding passesAt
-returns c = rw (c .before .before .unlabelled-at .ensures, c .is-past .ensures, c .before .size-at .ensures .0)
+returns c = rw (c .before .before .unlabelled-at .ensures, c .passes-gate .ensures, c .before .size-at .ensures .0)
 
 pub passes-at-spec : {M : Type 1} → statement M
 passes-at-spec =

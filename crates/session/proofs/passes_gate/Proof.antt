@@ -1,4 +1,4 @@
--- `session::is_past` meets its contract: each arm is the gate of its engine.
+-- `session::passes_gate` meets its contract: each arm is the gate of its engine.
 -- Assumes nothing.
 use mathlib.Core.Path.{_≡_}
 use Prim.Native.Nat.{ℕ, _*_}
@@ -6,8 +6,8 @@ use native.Mathlib.Omega.{arith}
 use borrow.Author.Needs.{needs}
 use borrow.Author.Tests.{eq-eqb, ne-eqb}
 use Rattle.raster.specs.Gate.{passes}
-use Rattle.session.proofs.is_past.Statement.{statement}
-use Rattle.session.proofs.is_past.Tie as tie
+use Rattle.session.proofs.passes_gate.Statement.{statement}
+use Rattle.session.proofs.passes_gate.Tie as tie
 
 once : (n : ℕ) → 1 * n ≡ n
 once n = omega arith
@@ -24,7 +24,7 @@ returns-3 : tie.Need-returns-3
 unfolding passes
 returns-3 c = rw (ne-eqb _ 1 (c .before .if1 .left), ne-eqb _ 2 (c .if2 .left), once (c .before .before .args .a))
 
-pub is-past-spec : {M : Type 1} → statement M
-is-past-spec =
+pub passes-gate-spec : {M : Type 1} → statement M
+passes-gate-spec =
     tie.close
     (tie.spec returns (λ c. search needs) (λ c. search needs) returns-2 (λ c. search needs) returns-3)
