@@ -121,13 +121,6 @@ runRefusal s map d n = firstOf
     ∷ (strays s d n, 33)
     ∷ [])
 
--- what a run that those rows let through has: a map of the sheet, and its start and end on the sheet
-pub record OnSheet (s : Session) (map : List ℤ) (direction n : ℕ) : Type 0 where
-  pub known : direction ≤ 7
-  pub held : length map ≡ 2 * (s .height * s .width)
-  pub start : (s .x < s .width) × (s .y < s .height)
-  pub end : (columnAfter direction n (s .x) < s .width) × (rowAfter direction n (s .y) < s .height)
-
 -- the pixel after n steps of a run passes its cutter
 abbrev pub passesAfter : Session → List ℤ → (direction n : ℕ) → Bool
 passesAfter s map d n = passesAt (s .engine) map (index (s .width) (columnAfter d n (s .x)) (rowAfter d n (s .y))) (s .q)
@@ -141,6 +134,13 @@ runAnswer s map d n = lastOf (runRefusal s map d n) (blocked s map d n) 34
 
 abbrev pub runSession : Session → (direction count : ℕ) → Session
 runSession s d n = downAt (columnAfter d n (s .x)) (rowAfter d n (s .y)) (s .q) s
+
+-- what a run that `runRefusal` lets through has, as the functions that test its pixels require it: a map of the sheet, start and end on the sheet
+pub record OnSheet (s : Session) (map : List ℤ) (direction n : ℕ) : Type 0 where
+  pub known : direction ≤ 7
+  pub held : length map ≡ 2 * (s .height * s .width)
+  pub start : (s .x < s .width) × (s .y < s .height)
+  pub end : (columnAfter direction n (s .x) < s .width) × (rowAfter direction n (s .y) < s .height)
 
 -- ---- lift: done also if the cutter was up; a session that no call could hand back becomes a fresh one
 

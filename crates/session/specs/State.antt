@@ -14,20 +14,20 @@ fresh = record { opened = false; width = 0; height = 0; current = false; engine 
 abbrev pub side : ℕ → Bool
 side n = leb 1 n && leb n maxSide
 
+-- both sides within their limits where a sheet is open; nothing recorded where none is
+unfoldable pub sheetSound : Session → Bool
+sheetSound s = cond (s .opened) (side (s .width) && side (s .height)) (eqb (s .width) 0 && (eqb (s .height) 0 && not (s .current)))
+
+-- the map is current by a known engine, or not by none
+unfoldable pub mapSound : Session → Bool
+mapSound s = cond (s .current) (leb 1 (s .engine) && leb (s .engine) 3) (eqb (s .engine) 0)
+
 -- the cutter is up with nothing recorded, or down on the sheet over a current map
 unfoldable pub cutterSound : Session → Bool
 cutterSound s =
     cond (s .lowered)
     (s .current && ((ltb (s .x) (s .width) && ltb (s .y) (s .height)) && leb (s .q) maxQ))
     (eqb (s .x) 0 && (eqb (s .y) 0 && eqb (s .q) 0))
-
--- the map is current by a known engine, or not by none
-unfoldable pub mapSound : Session → Bool
-mapSound s = cond (s .current) (leb 1 (s .engine) && leb (s .engine) 3) (eqb (s .engine) 0)
-
--- both sides within their limits where a sheet is open; nothing recorded where none is
-unfoldable pub sheetSound : Session → Bool
-sheetSound s = cond (s .opened) (side (s .width) && side (s .height)) (eqb (s .width) 0 && (eqb (s .height) 0 && not (s .current)))
 
 -- some call could hand it back
 unfoldable pub sound : Session → Bool

@@ -63,7 +63,7 @@ pub struct Reply {
     pub session: Session,
 }
 
-// ---- which sessions a call could hand back
+// ---- which sessions a call could hand back: each function is the test of its name in specs/State
 
 fn is_side(n: u16) -> bool
     ensures { λ r. ⌜ r ≡ side n ⌝ }
@@ -110,7 +110,7 @@ fn is_active(s: Session) -> bool
     s.opened & is_sound(s)
 }
 
-// ---- how a session changes
+// ---- how a session changes: likewise
 
 fn opened_as(w: u16, h: u16) -> Session
     ensures { λ r. ⌜ r ≡ openedAs w h ⌝ }
@@ -173,7 +173,7 @@ fn up_of(mut s: Session) -> Session
     s
 }
 
-// ---- the tables of refusals
+// ---- the tables of refusals of specs/Calls, in their order, and the lengths that they ask for
 
 fn pixels_of(s: Session) -> usize
     ensures { λ r. ⌜ r ≡ s .height * s .width ⌝ }
@@ -380,6 +380,16 @@ fn step_down(d: u16) -> i16
     STEPS[d as usize][1]
 }
 
+// t − n, not below 0.
+fn less(t: usize, n: usize) -> usize
+    ensures { λ r. ⌜ r ≡ t - n ⌝ }
+{
+    if t < n {
+        return 0;
+    }
+    t - n
+}
+
 // The place t after n steps.
 fn place_after(step: i16, n: u16, t: u16) -> usize
     ensures { λ r. ⌜ r ≡ along step n t ⌝ }
@@ -391,16 +401,6 @@ fn place_after(step: i16, n: u16, t: u16) -> usize
         return less(t as usize, n as usize);
     }
     t as usize
-}
-
-// t − n, not below 0.
-fn less(t: usize, n: usize) -> usize
-    ensures { λ r. ⌜ r ≡ t - n ⌝ }
-{
-    if t < n {
-        return 0;
-    }
-    t - n
 }
 
 // They leave a line of `side` places.
@@ -451,6 +451,28 @@ fn run_to(mut s: Session, d: u16, count: u16) -> Session
 
 // ---- the calls
 
+// Writes v in a rectangle, unless the answer says otherwise.
+fn fill(s: Session, sheet: &mut [u8], x: u16, y: u16, cols: u16, rows: u16, v: u8) -> u32
+    ensures { λ r. ⌜ r ≡ fillAnswer s (now (sheet .entry)) x y cols rows ⌝ }
+    ensures { λ r. ⌜ now (sheet .exit) ≡ onDone r (filledBy s x y cols rows v (now (sheet .entry))) (now (sheet .entry)) ⌝ }
+{
+    let answer = fill_answer(s, sheet, x, y, cols, rows);
+    if answer == 0 {
+        raster::fill_rectangle(
+            sheet,
+            s.width as usize,
+            s.height as usize,
+            x as usize,
+            y as usize,
+            cols as usize,
+            rows as usize,
+            v,
+        );
+        return answer;
+    }
+    answer
+}
+
 impl Session {
     // Nothing open, map not current, cutter up.
     pub const FRESH: Session = Session {
@@ -500,18 +522,6 @@ impl Session {
             answer,
             session: self,
         }
-    }
-
-    // Row y of the map, two numbers a pixel: the part of the map that holds it, or an empty part.
-    pub fn map_row(self, map: &[i16], y: u16) -> &[i16]
-        ensures { λ r. ⌜ now r ≡ rowOf self (now (map .entry)) y ⌝ }
-    {
-        if !has_row(self, map, y) {
-            return &map[0..0];
-        }
-        let w = self.width as usize;
-        let from = 2 * ((y as usize) * w);
-        &map[from..from + 2 * w]
     }
 
     // Writes 1 in the rectangle of cols × rows pixels at (x, y); the map is not current then, the cutter up.
@@ -751,26 +761,16 @@ impl Session {
             session: self,
         }
     }
-}
 
-// Writes v in a rectangle, unless the answer says otherwise.
-fn fill(s: Session, sheet: &mut [u8], x: u16, y: u16, cols: u16, rows: u16, v: u8) -> u32
-    ensures { λ r. ⌜ r ≡ fillAnswer s (now (sheet .entry)) x y cols rows ⌝ }
-    ensures { λ r. ⌜ now (sheet .exit) ≡ onDone r (filledBy s x y cols rows v (now (sheet .entry))) (now (sheet .entry)) ⌝ }
-{
-    let answer = fill_answer(s, sheet, x, y, cols, rows);
-    if answer == 0 {
-        raster::fill_rectangle(
-            sheet,
-            s.width as usize,
-            s.height as usize,
-            x as usize,
-            y as usize,
-            cols as usize,
-            rows as usize,
-            v,
-        );
-        return answer;
+    // Row y of the map, two numbers a pixel: the part of the map that holds it, or an empty part.
+    pub fn map_row(self, map: &[i16], y: u16) -> &[i16]
+        ensures { λ r. ⌜ now r ≡ rowOf self (now (map .entry)) y ⌝ }
+    {
+        if !has_row(self, map, y) {
+            return &map[0..0];
+        }
+        let w = self.width as usize;
+        let from = 2 * ((y as usize) * w);
+        &map[from..from + 2 * w]
     }
-    answer
 }
