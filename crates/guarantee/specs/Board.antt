@@ -11,13 +11,14 @@ use Rattle.raster.specs.Sheet.{covers}
 use Rattle.morphology.specs.Resize.{grows, stays}
 use Rattle.session.specs.Directions.{columnAfter, rowAfter}
 
--- ---- the calls, with their numbers and the slices that are theirs alone
+-- ---- the calls
 
 -- the sheet and map that an opening may come with
 pub record Lent : Type 0 where
   pub sheet : List ℕ
   pub map : List ℤ
 
+-- a call: its numbers, and the slices that only it is lent
 pub data Call : Type 0 where
   opening : (w h : ℕ) (other : Option Lent) → Call
   paint : (x y cols rows : ℕ) → Call
@@ -35,10 +36,12 @@ pub data Call : Type 0 where
 
 -- ---- the board
 
+-- up, or down at a pixel with a q
 pub data Cutter : Type 0 where
   up : Cutter
   down : (x y q : ℕ) → Cutter
 
+-- W, H, the copper, the engine and the cutter
 pub record Board : Type 0 where
   pub width : ℕ
   pub height : ℕ

@@ -23,6 +23,7 @@ use Rattle.guarantee.specs.World.{World, world, answer, after}
 abbrev pub Above : Board → (q x y : ℕ) → Type 0
 Above b q x y = Clear (b .copper) (b .width) (b .height) x y q
 
+-- so it is from each pixel to which a run of n steps brings a lowered cutter; one that is up is brought nowhere
 abbrev pub Along : Board → (direction n : ℕ) → Cutter → Type 0
 Along b d n up = Unit {0}
 Along b d n (down x y q) = (i : ℕ) → 1 ≤ i → i ≤ n → Above b q (columnAfter d i x) (rowAfter d i y)
@@ -60,6 +61,7 @@ pub record Met (b : Board) (direction n x y q : ℕ) : Type 0 where
   pub last : step ≤ n
   pub close : Close b q (columnAfter direction step x) (rowAfter direction step y)
 
+-- that of the board's cutter; one that is up is not stopped
 abbrev pub Stopped : Board → (direction n : ℕ) → Cutter → Type 0
 Stopped b d n up = ⊥
 Stopped b d n (down x y q) = Met b d n x y q
@@ -79,16 +81,19 @@ Fair (skeleton o) b = ⊥
 Fair (rebuild m o) b = ⊥
 Fair aside b = ⊥
 
+-- demand 3 at one call
 pub record Claim (c : Call) (answer : ℕ) (b : Board) : Type 0 where
   pub safe : answer ≡ 0 → Safe c b
   pub fair : answer ≡ 34 → Fair c b
 
 -- ---- session and sheet agree with the board
 
+-- up in both, or down in both at the same pixel with the same q
 abbrev pub SameCutter : Cutter → Session → Type 0
 SameCutter up s = s .lowered ≡ false
 SameCutter (down x y q) s = (s .lowered ≡ true) × ((s .x ≡ x) × ((s .y ≡ y) × (s .q ≡ q)))
 
+-- W, H, engine and cutter are equal; a sheet is open, the map current, the pixel copper in both or in neither
 pub record Agree (b : Board) (w : World) : Type 0 where
   pub width : w .session .width ≡ b .width
   pub height : w .session .height ≡ b .height
@@ -100,6 +105,7 @@ pub record Agree (b : Board) (w : World) : Type 0 where
 
 -- ---- lists of calls
 
+-- at each call of a list its claim holds, and agreement after it
 abbrev pub Holds : List Call → Board → World → Type 0
 Holds [] b w = Unit {0}
 Holds (c ∷ cs) b w = Claim c (answer c w) b × (Agree (feed c (answer c w) b) (after c w) × Holds cs (feed c (answer c w) b) (after c w))
@@ -110,6 +116,7 @@ Guarantee = (cs : List Call) (sheet : List ℕ) (map : List ℤ) → Holds cs bl
 
 -- ---- for the workshop: session and sheet alone
 
+-- what a list of calls leaves
 abbrev pub leftBy : List Call → World → World
 leftBy [] w = w
 leftBy (c ∷ cs) w = leftBy cs (after c w)

@@ -27,6 +27,7 @@ ends = mapOf (openedAs 5 1) (1 ∷ 0 ∷ 0 ∷ 0 ∷ 1 ∷ []) 1
 pub data Marked : Type 0 where
   m1 m2 m3 m4 m5 m6 m7 m8 m9 : Marked
 
+-- what document 01 says of each
 abbrev pub Says : Marked → Type 0
 Says m1 = (sizeAt (four 1) 0 ≡ 8) × ((sizeAt (four 2) 0 ≡ 8) × ((sizeAt (four 3) 0 ≡ 9) × ((dxAt (four 3) 0 ≡ pos 3) × (dyAt (four 3) 0 ≡ pos 0))))
 Says m2 = (passesAt 1 (four 1) 0 7 ≡ true) × (passesAt 1 (four 1) 0 8 ≡ false)

@@ -13,6 +13,7 @@ use Rattle.session.specs.State.{openedAs, stale, downAt}
 use Rattle.session.specs.Calls as session
 use Rattle.guarantee.specs.Board.{Lent, Call, opening, paint, erase, build, place, run, lift, expand, shrink, skeleton, rebuild, aside}
 
+-- what the calls of a list hand on
 pub record World : Type 0 where
   pub session : Session
   pub sheet : List ℕ
@@ -26,6 +27,7 @@ abbrev pub lentTo : Option Lent → World → Lent
 lentTo none w = record { sheet = w .sheet; map = w .map }
 lentTo (some l) w = l
 
+-- the answer of each call
 abbrev pub answer : Call → World → ℕ
 answer (opening a b o) w = session.openAnswer (lentTo o w .sheet) a b
 answer (paint x y c r) w = session.fillAnswer (w .session) (w .sheet) x y c r
@@ -65,5 +67,6 @@ left (skeleton out) a w = w
 left (rebuild marks out) a w = w
 left aside a w = w
 
+-- what a call leaves
 abbrev pub after : Call → World → World
 after c w = left c (answer c w) w

@@ -343,15 +343,6 @@ fn passes_at(s: Session, map: &[i16], x: usize, y: usize, q: u32) -> bool
     raster::unlabelled_at(map, p) | passes_gate(s.engine, raster::size_at(map, p), q)
 }
 
-// ---- the map's rows
-
-// The map has a row y.
-fn has_row(s: Session, map: &[i16], y: u16) -> bool
-    ensures { λ r. ⌜ r ≡ hasRow s (now (map .entry)) y ⌝ }
-{
-    is_active(s) & ((y < s.height) & is_map(s, map))
-}
-
 // ---- the directions
 
 // One step right and down, clockwise from east.
@@ -447,6 +438,15 @@ fn run_to(mut s: Session, d: u16, count: u16) -> Session
     let y = place_after(step_down(d), count, s.y);
     s = down_at(s, x as u16, y as u16, s.q);
     s
+}
+
+// ---- the map's rows
+
+// The map has a row y.
+fn has_row(s: Session, map: &[i16], y: u16) -> bool
+    ensures { λ r. ⌜ r ≡ hasRow s (now (map .entry)) y ⌝ }
+{
+    is_active(s) & ((y < s.height) & is_map(s, map))
 }
 
 // ---- the calls
