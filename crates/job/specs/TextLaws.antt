@@ -53,27 +53,19 @@ digits-more (suc k) n some h = let e : suc k - 1 ≡ k = omega arith in rw (le-l
 
 -- ---- how long it gets
 
-more-digits : (f n k m : ℕ) → (n / 10 < m → length (digits f (n / 10)) ≤ k) → n < 10 * m → length (digits (suc f) n) ≤ suc k
-unfolding digits
-more-digits f n k m h lt =
-    cond-ind (λ (l : List ℕ). length l ≤ suc k) (ltb n 10) (λ _. omega arith)
-    (λ _. omega (arith, length-append (digits f (n / 10)) ((48 + n % 10) ∷ []), h (omega arith)))
+-- the first number of more digits than so many
+unfoldable pub tens : (most : ℕ) → ℕ
+tens zero = 1
+tens (suc k) = 10 * tens k
 
-one-digit : (f n : ℕ) → n < 10 → length (digits (suc f) n) ≤ 1
-unfolding digits
-one-digit f n h = rw (lt-ltb n 10 h) (omega arith)
-
-two-digits : (f n : ℕ) → n < 100 → length (digits (suc (suc f)) n) ≤ 2
-two-digits f n h = more-digits (suc f) n 1 10 (one-digit f (n / 10)) h
-
-three-digits : (f n : ℕ) → n < 1000 → length (digits (suc (suc (suc f))) n) ≤ 3
-three-digits f n h = more-digits (suc (suc f)) n 2 100 (two-digits f (n / 10)) h
-
-four-digits : (f n : ℕ) → n < 10000 → length (digits (suc (suc (suc (suc f)))) n) ≤ 4
-four-digits f n h = more-digits (suc (suc (suc f))) n 3 1000 (three-digits f (n / 10)) h
-
-five-digits : (f n : ℕ) → n < 100000 → length (digits (suc (suc (suc (suc (suc f))))) n) ≤ 5
-five-digits f n h = more-digits (suc (suc (suc (suc f)))) n 4 10000 (four-digits f (n / 10)) h
+-- as many digits as the number needs, or fewer
+digits-few : (k most n : ℕ) → n < tens (suc k) → length (digits most n) ≤ suc k
+unfolding digits tens
+digits-few k zero n h = omega arith
+digits-few zero (suc m) n h = rw (lt-ltb n 10 h) (omega arith)
+digits-few (suc k) (suc m) n h =
+    cond-ind (λ (l : List ℕ). length l ≤ suc (suc k)) (ltb n 10) (λ _. omega arith)
+    (λ _. omega (arith, length-append (digits m (n / 10)) ((48 + n % 10) ∷ []), digits-few k m (n / 10) (omega arith)))
 
 pub line-length : (i a : ℕ) → length (line i a) ≡ length (decimal i) + (1 + (length (decimal a) + 1))
 unfolding line
@@ -81,7 +73,8 @@ line-length i a = simp length-append (omega arith)
 
 -- a record's line has at most nine bytes
 pub nine-bytes : (i a : ℕ) → i < 100000 → a < 100 → length (line i a) ≤ 9
-nine-bytes i a fi fa = omega (arith, line-length i a, five-digits 5 i fi, two-digits 8 a fa)
+unfolding tens
+nine-bytes i a fi fa = omega (arith, line-length i a, digits-few 4 10 i fi, digits-few 1 10 a fa)
 
 -- ---- the digits are those of the number
 
@@ -94,11 +87,6 @@ spelled-more : (n : ℕ) (s t : List ℕ) → spelled n (s ++ t) ≡ spelled (sp
 unfolding spelled
 spelled-more n [] t = refl
 spelled-more n (d ∷ s) t = spelled-more (10 * n + (d - 48)) s t
-
--- the first number of more digits than so many
-unfoldable pub tens : (most : ℕ) → ℕ
-tens zero = 1
-tens (suc k) = 10 * tens k
 
 -- the theorem: the digits of a number that needs no more than so many spell it
 pub digits-spell : (most n : ℕ) → n < tens most → spelled 0 (digits most n) ≡ n
