@@ -7,14 +7,13 @@ use Prim.Native.Nat.{ℕ, zero, suc, _+_, _*_, _/_, _%_, _<_, _≤_}
 use native.Mathlib.Omega.{arith}
 use native.Mathlib.Numerals.{add-one}
 use lib.Dec.{eqb, leb}
-use lib.ListN.{length, getD, take, drop, length-drop, take-append-drop}
+use lib.ListN.{length, getD, take, drop, take-append-drop}
 use lib.Seq.{drop-cons, drop-drop, getD-drop, take-add}
-use borrow.Author.Tests.{eqb-true, eqb-false, leb-true}
+use borrow.Author.Tests.{eqb-true, eqb-false}
 use Rattle.raster.specs.PixelsLaws.{nothing}
-use Rattle.raster.specs.Tests.{and-left, and-right}
-use Rattle.job.specs.Format.{Order, word, long, sizeOf, sizeHere, orderHere, splits, ordersIn, isJob, ordersOf, wordBytes, longBytes, encode, encodeAll}
+use Rattle.raster.specs.Tests.{and-right}
+use Rattle.job.specs.Format.{word, sizeOf, sizeHere, orderHere, splits, ordersIn, isJob, ordersOf, wordBytes, encode, encodeAll}
 use Rattle.job.specs.FormatLaws.{is-opening, is-paint, is-erase, is-build, is-place, is-run, is-lift, is-expand, is-shrink}
-use Rattle.job.specs.Obey.{Here}
 use Rattle.job.specs.ObeyLaws.{here}
 
 -- every element is a byte
@@ -53,54 +52,18 @@ halves a b h = (omega arith, omega arith)
 
 -- the record at the front, written again, is the bytes that it had
 module _ (b : List ℕ) (bytes : Bytes b) (fits : word b 0 ≤ length b) where
-  written-opening : word b 2 ≡ 1 → word b 0 ≡ 8 → encode (orderHere b) ≡ take (word b 0) b
-  unfolding words encode
-  written-opening k s = rw (is-opening b k, s) (rw (s, k) at (words-are 4 0 b bytes (omega arith)))
-
-  written-paint : word b 2 ≡ 2 → word b 0 ≡ 12 → encode (orderHere b) ≡ take (word b 0) b
-  unfolding words encode
-  written-paint k s = rw (is-paint b k, s) (rw (s, k) at (words-are 6 0 b bytes (omega arith)))
-
-  written-erase : word b 2 ≡ 3 → word b 0 ≡ 12 → encode (orderHere b) ≡ take (word b 0) b
-  unfolding words encode
-  written-erase k s = rw (is-erase b k, s) (rw (s, k) at (words-are 6 0 b bytes (omega arith)))
-
-  written-build : word b 2 ≡ 4 → word b 0 ≡ 6 → encode (orderHere b) ≡ take (word b 0) b
-  unfolding words encode
-  written-build k s = rw (is-build b k, s) (rw (s, k) at (words-are 3 0 b bytes (omega arith)))
-
-  written-place : word b 2 ≡ 5 → word b 0 ≡ 12 → encode (orderHere b) ≡ take (word b 0) b
-  unfolding words encode
-  written-place k s = let l = halves (word b 8) (word b 10) (word-limit b 8 bytes) in rw (is-place b k, s, l .0, l .1) (rw (s, k) at (words-are 6 0 b bytes (omega arith)))
-
-  written-run : word b 2 ≡ 6 → word b 0 ≡ 8 → encode (orderHere b) ≡ take (word b 0) b
-  unfolding words encode
-  written-run k s = rw (is-run b k, s) (rw (s, k) at (words-are 4 0 b bytes (omega arith)))
-
-  written-lift : word b 2 ≡ 7 → word b 0 ≡ 4 → encode (orderHere b) ≡ take (word b 0) b
-  unfolding words encode
-  written-lift k s = rw (is-lift b k, s) (rw (s, k) at (words-are 2 0 b bytes (omega arith)))
-
-  written-expand : word b 2 ≡ 8 → word b 0 ≡ 8 → encode (orderHere b) ≡ take (word b 0) b
-  unfolding words encode
-  written-expand k s = let l = halves (word b 4) (word b 6) (word-limit b 4 bytes) in rw (is-expand b k, s, l .0, l .1) (rw (s, k) at (words-are 4 0 b bytes (omega arith)))
-
-  written-shrink : word b 2 ≡ 9 → word b 0 ≡ 8 → encode (orderHere b) ≡ take (word b 0) b
-  unfolding words encode
-  written-shrink k s = let l = halves (word b 4) (word b 6) (word-limit b 4 bytes) in rw (is-shrink b k, s, l .0, l .1) (rw (s, k) at (words-are 4 0 b bytes (omega arith)))
-
   written-record : (k : ℕ) → word b 2 ≡ k → word b 0 ≡ sizeOf k → 1 ≤ k → k ≤ 9 → encode (orderHere b) ≡ take (word b 0) b
-  unfolding sizeOf
+  unfolding words encode sizeOf
   written-record zero e s l h = absurd (omega arith)
-  written-record (suc zero) e s l h = written-opening e s
-  written-record (suc (suc zero)) e s l h = written-paint e s
-  written-record (suc (suc (suc zero))) e s l h = written-erase e s
-  written-record (suc (suc (suc (suc zero)))) e s l h = written-build e s
-  written-record (suc (suc (suc (suc (suc zero))))) e s l h = written-place e s
-  written-record (suc (suc (suc (suc (suc (suc zero)))))) e s l h = written-run e s
-  written-record (suc (suc (suc (suc (suc (suc (suc zero))))))) e s l h = written-lift e s
-  written-record (suc (suc (suc (suc (suc (suc (suc (suc zero)))))))) e s l h = written-expand e s
-  written-record (suc (suc (suc (suc (suc (suc (suc (suc (suc zero))))))))) e s l h = written-shrink e s
+  written-record (suc zero) e s l h = rw (is-opening b e, s) (rw (s, e) at (words-are 4 0 b bytes (omega arith)))
+  written-record (suc (suc zero)) e s l h = rw (is-paint b e, s) (rw (s, e) at (words-are 6 0 b bytes (omega arith)))
+  written-record (suc (suc (suc zero))) e s l h = rw (is-erase b e, s) (rw (s, e) at (words-are 6 0 b bytes (omega arith)))
+  written-record (suc (suc (suc (suc zero)))) e s l h = rw (is-build b e, s) (rw (s, e) at (words-are 3 0 b bytes (omega arith)))
+  written-record (suc (suc (suc (suc (suc zero))))) e s l h = let n = halves (word b 8) (word b 10) (word-limit b 8 bytes) in rw (is-place b e, s, n .0, n .1) (rw (s, e) at (words-are 6 0 b bytes (omega arith)))
+  written-record (suc (suc (suc (suc (suc (suc zero)))))) e s l h = rw (is-run b e, s) (rw (s, e) at (words-are 4 0 b bytes (omega arith)))
+  written-record (suc (suc (suc (suc (suc (suc (suc zero))))))) e s l h = rw (is-lift b e, s) (rw (s, e) at (words-are 2 0 b bytes (omega arith)))
+  written-record (suc (suc (suc (suc (suc (suc (suc (suc zero)))))))) e s l h = let n = halves (word b 4) (word b 6) (word-limit b 4 bytes) in rw (is-expand b e, s, n .0, n .1) (rw (s, e) at (words-are 4 0 b bytes (omega arith)))
+  written-record (suc (suc (suc (suc (suc (suc (suc (suc (suc zero))))))))) e s l h = let n = halves (word b 4) (word b 6) (word-limit b 4 bytes) in rw (is-shrink b e, s, n .0, n .1) (rw (s, e) at (words-are 4 0 b bytes (omega arith)))
   written-record (suc (suc (suc (suc (suc (suc (suc (suc (suc (suc k)))))))))) e s l h = absurd (omega arith)
 
 -- its length is the one it says
