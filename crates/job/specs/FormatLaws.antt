@@ -55,32 +55,28 @@ size-fits bytes =
     (λ _. omega arith))
     (λ _. omega arith)
 
--- one record further on
-module _ (job : List ℕ) (i at : ℕ) {size : ℕ} (is : size ≡ sizeHere (drop at job)) (some : size ≡ 0 → ⊥) (more : at < length job) (few : i ≤ at) where
-  pub splits-turn : splits (length job - i) (drop at job) ≡ splits (length job - (i + 1)) (drop (at + size) job)
+-- at a record, where bytes are left
+module _ (job : List ℕ) (i at : ℕ) {size : ℕ} (is : size ≡ sizeHere (drop at job)) (more : at < length job) (few : i ≤ at) where
+  one-less : length job - i ≡ suc (length job - (i + 1))
+  one-less = omega arith
+
+  some-left : eqb (length (drop at job)) 0 ≡ false
+  some-left = ne-eqb (length (drop at job)) 0 (omega (arith, length-drop at job))
+
+  -- one record further on
+  pub splits-turn : (size ≡ 0 → ⊥) → splits (length job - i) (drop at job) ≡ splits (length job - (i + 1)) (drop (at + size) job)
   unfolding splits
-  splits-turn =
-      let n : length job - i ≡ suc (length job - (i + 1)) = omega arith in
-      let l : eqb (length (drop at job)) 0 ≡ false = ne-eqb (length (drop at job)) 0 (omega (arith, length-drop at job)) in
-      rw (n, l, ← is, ne-eqb size 0 some, drop-drop)
+  splits-turn some = rw (one-less, some-left, ← is, ne-eqb size 0 some, drop-drop)
 
   pub orders-turn :
       ordersIn (length job - i) (drop at job) ≡ orderHere (drop at job) ∷ ordersIn (length job - (i + 1)) (drop (at + size) job)
   unfolding ordersIn
-  orders-turn =
-      let n : length job - i ≡ suc (length job - (i + 1)) = omega arith in
-      let l : eqb (length (drop at job)) 0 ≡ false = ne-eqb (length (drop at job)) 0 (omega (arith, length-drop at job)) in
-      rw (n, l, ← is, drop-drop)
+  orders-turn = rw (one-less, some-left, ← is, drop-drop)
 
--- no record where bytes are left
-pub splits-not : (job : List ℕ) (i at : ℕ) {size : ℕ} → size ≡ sizeHere (drop at job) → size ≡ 0 → at < length job → i ≤ at
-    → splits (length job - i) (drop at job) ≡ false
-unfolding splits
-splits-not job i at is none more few =
-    let n : length job - i ≡ suc (length job - (i + 1)) = omega arith in
-    let l : eqb (length (drop at job)) 0 ≡ false = ne-eqb (length (drop at job)) 0 (omega (arith, length-drop at job)) in
-    let z : sizeHere (drop at job) ≡ 0 = sym is ∙ none in
-    rw (n, l, z)
+  -- it is none
+  pub splits-not : size ≡ 0 → splits (length job - i) (drop at job) ≡ false
+  unfolding splits
+  splits-not none = rw (one-less, some-left, ← is, none)
 
 -- at the end
 pub splits-end : (n : ℕ) (bytes : List ℕ) → length bytes ≡ 0 → splits n bytes ≡ true

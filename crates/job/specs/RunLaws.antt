@@ -90,7 +90,7 @@ running-start job start out is =
 module _ {job : List ℕ} {start : Bench} {empty : List ℕ} {i at end : ℕ} {b : Bench} {out : List ℕ} (r : Running job start empty i at end b out) where
   module _ (more : at < length job) where
     some-size : {size : ℕ} → size ≡ sizeHere (drop at job) → size ≡ 0 → ⊥
-    some-size is z = false≢true (sym (splits-not job i at is z more (r .begun .0)) ∙ r .splitting)
+    some-size is z = false≢true (sym (splits-not job i at is more (r .begun .0) z) ∙ r .splitting)
 
     -- the record ends within the job
     pub running-size : {size : ℕ} → size ≡ sizeHere (drop at job) → (1 ≤ size) × (at + size ≤ length job)
@@ -107,7 +107,7 @@ module _ {job : List ℕ} {start : Bench} {empty : List ℕ} {i at end : ℕ} {b
     -- the next line has its room
     pub running-room : {text : ℕ} → 9 * length (ordersOf job) ≤ length out → text ≤ 9 → end + text ≤ length out
     running-room fits short =
-        let o = orders-turn job i at refl (some-size refl) more (r .begun .0) in
+        let o = orders-turn job i at refl more (r .begun .0) in
         omega (arith, r .count, ap length o, r .short, fits, short)
 
     pub running-turn : {size a e : ℕ} {next : Bench} {written : List ℕ} → size ≡ sizeHere (drop at job)
@@ -116,8 +116,8 @@ module _ {job : List ℕ} {start : Bench} {empty : List ℕ} {i at end : ℕ} {b
     unfolding callsOf benchAfter answersOf textFrom
     running-turn {size} {a} {e} {next} {written} is ob p short =
         let some = some-size is in
-        let o = orders-turn job i at is some more (r .begun .0) in record {
-          splitting = sym (splits-turn job i at is some more (r .begun .0)) ∙ r .splitting;
+        let o = orders-turn job i at is more (r .begun .0) in record {
+          splitting = sym (splits-turn job i at is more (r .begun .0) some) ∙ r .splitting;
           bench = rw (ob .left) (rw o at (r .bench));
           text = rw (p .front, append-assoc, ob .left, ob .answer) (rw o at (r .text));
           back =

@@ -43,7 +43,7 @@ unfolding splitOf isJob
 returns-2 c =
     let l = c .before .before .before in
     let j = l .before .before .before .args .job .now in
-    let n = splits-not j (l .loop .records) (l .loop .at) (c .before .size-at .ensures) (c .if2 .taken) (omega arith) (omega arith) in
+    let n = splits-not j (l .loop .records) (l .loop .at) (c .before .size-at .ensures) (omega arith) (omega arith) (c .if2 .taken) in
     rw (le-leb (length j) 65536 (omega arith), l .loop .inv .0, n)
 
 loop-again : tie.Need-loop-again Inv-loop μ-loop
@@ -52,8 +52,8 @@ loop-again c =
     let j = l .before .before .before .args .job .now in
     let i = l .loop .records in
     let e = c .before .size-at .ensures in
-    let o = orders-turn j i (l .loop .at) e (c .if2 .left) (omega arith) (omega arith) in (
-      l .loop .inv .0 ∙ splits-turn j i (l .loop .at) e (c .if2 .left) (omega arith) (omega arith),
+    let o = orders-turn j i (l .loop .at) e (omega arith) (omega arith) in (
+      l .loop .inv .0 ∙ splits-turn j i (l .loop .at) e (omega arith) (omega arith) (c .if2 .left),
       (omega (arith, l .loop .inv .1 .0, ap length o), (omega arith, fits (c .before))),
     )
 
