@@ -13,7 +13,6 @@ use borrow.Author.Tests.{eqb-true, eqb-false}
 use Rattle.raster.specs.PixelsLaws.{nothing}
 use Rattle.raster.specs.Tests.{and-right}
 use Rattle.job.specs.Format.{word, sizeOf, sizeHere, orderHere, splits, ordersIn, isJob, ordersOf, wordBytes, encode, encodeAll}
-use Rattle.job.specs.FormatLaws.{is-opening, is-paint, is-erase, is-build, is-place, is-run, is-lift, is-expand, is-shrink}
 use Rattle.job.specs.ObeyLaws.{here}
 
 -- every element is a byte
@@ -53,17 +52,17 @@ halves a b h = (omega arith, omega arith)
 -- the record at the front, written again, is the bytes that it had
 module _ (b : List ℕ) (bytes : Bytes b) (fits : word b 0 ≤ length b) where
   written-record : (k : ℕ) → word b 2 ≡ k → word b 0 ≡ sizeOf k → 1 ≤ k → k ≤ 9 → encode (orderHere b) ≡ take (word b 0) b
-  unfolding words encode sizeOf
+  unfolding words encode orderHere sizeOf
   written-record zero e s l h = absurd (omega arith)
-  written-record (suc zero) e s l h = rw (is-opening b e, s) (rw (s, e) at (words-are 4 0 b bytes (omega arith)))
-  written-record (suc (suc zero)) e s l h = rw (is-paint b e, s) (rw (s, e) at (words-are 6 0 b bytes (omega arith)))
-  written-record (suc (suc (suc zero))) e s l h = rw (is-erase b e, s) (rw (s, e) at (words-are 6 0 b bytes (omega arith)))
-  written-record (suc (suc (suc (suc zero)))) e s l h = rw (is-build b e, s) (rw (s, e) at (words-are 3 0 b bytes (omega arith)))
-  written-record (suc (suc (suc (suc (suc zero))))) e s l h = let n = halves (word b 8) (word b 10) (word-limit b 8 bytes) in rw (is-place b e, s, n .0, n .1) (rw (s, e) at (words-are 6 0 b bytes (omega arith)))
-  written-record (suc (suc (suc (suc (suc (suc zero)))))) e s l h = rw (is-run b e, s) (rw (s, e) at (words-are 4 0 b bytes (omega arith)))
-  written-record (suc (suc (suc (suc (suc (suc (suc zero))))))) e s l h = rw (is-lift b e, s) (rw (s, e) at (words-are 2 0 b bytes (omega arith)))
-  written-record (suc (suc (suc (suc (suc (suc (suc (suc zero)))))))) e s l h = let n = halves (word b 4) (word b 6) (word-limit b 4 bytes) in rw (is-expand b e, s, n .0, n .1) (rw (s, e) at (words-are 4 0 b bytes (omega arith)))
-  written-record (suc (suc (suc (suc (suc (suc (suc (suc (suc zero))))))))) e s l h = let n = halves (word b 4) (word b 6) (word-limit b 4 bytes) in rw (is-shrink b e, s, n .0, n .1) (rw (s, e) at (words-are 4 0 b bytes (omega arith)))
+  written-record (suc zero) e s l h = rw (e, s) (rw (s, e) at (words-are 4 0 b bytes (omega arith)))
+  written-record (suc (suc zero)) e s l h = rw (e, s) (rw (s, e) at (words-are 6 0 b bytes (omega arith)))
+  written-record (suc (suc (suc zero))) e s l h = rw (e, s) (rw (s, e) at (words-are 6 0 b bytes (omega arith)))
+  written-record (suc (suc (suc (suc zero)))) e s l h = rw (e, s) (rw (s, e) at (words-are 3 0 b bytes (omega arith)))
+  written-record (suc (suc (suc (suc (suc zero))))) e s l h = let n = halves (word b 8) (word b 10) (word-limit b 8 bytes) in rw (e, s, n .0, n .1) (rw (s, e) at (words-are 6 0 b bytes (omega arith)))
+  written-record (suc (suc (suc (suc (suc (suc zero)))))) e s l h = rw (e, s) (rw (s, e) at (words-are 4 0 b bytes (omega arith)))
+  written-record (suc (suc (suc (suc (suc (suc (suc zero))))))) e s l h = rw (e, s) (rw (s, e) at (words-are 2 0 b bytes (omega arith)))
+  written-record (suc (suc (suc (suc (suc (suc (suc (suc zero)))))))) e s l h = let n = halves (word b 4) (word b 6) (word-limit b 4 bytes) in rw (e, s, n .0, n .1) (rw (s, e) at (words-are 4 0 b bytes (omega arith)))
+  written-record (suc (suc (suc (suc (suc (suc (suc (suc (suc zero))))))))) e s l h = let n = halves (word b 4) (word b 6) (word-limit b 4 bytes) in rw (e, s, n .0, n .1) (rw (s, e) at (words-are 4 0 b bytes (omega arith)))
   written-record (suc (suc (suc (suc (suc (suc (suc (suc (suc (suc k)))))))))) e s l h = absurd (omega arith)
 
 -- its length is the one it says

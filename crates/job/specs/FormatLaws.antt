@@ -24,7 +24,6 @@ use Rattle.job.specs.Format.{
   expand,
   shrink,
   word,
-  long,
   sizeOf,
   sizeHere,
   orderHere,
@@ -107,45 +106,6 @@ split-refused job {c} e some = go (isJob job) refl e
         → isJob job ≡ false
     go true p q = absurd (some (ap (λ (d : Counted). d .answer) q))
     go false p q = p
-
--- ---- the record at the front, by its kind
-
-module _ (b : List ℕ) where
-  pub is-opening : word b 2 ≡ 1 → orderHere b ≡ opening (word b 4) (word b 6)
-  unfolding orderHere
-  is-opening e = rw e
-
-  pub is-paint : word b 2 ≡ 2 → orderHere b ≡ paint (word b 4) (word b 6) (word b 8) (word b 10)
-  unfolding orderHere
-  is-paint e = rw e
-
-  pub is-erase : word b 2 ≡ 3 → orderHere b ≡ erase (word b 4) (word b 6) (word b 8) (word b 10)
-  unfolding orderHere
-  is-erase e = rw e
-
-  pub is-build : word b 2 ≡ 4 → orderHere b ≡ build (word b 4)
-  unfolding orderHere
-  is-build e = rw e
-
-  pub is-place : word b 2 ≡ 5 → orderHere b ≡ place (word b 4) (word b 6) (long b 8)
-  unfolding orderHere
-  is-place e = rw e
-
-  pub is-run : word b 2 ≡ 6 → orderHere b ≡ run (word b 4) (word b 6)
-  unfolding orderHere
-  is-run e = rw e
-
-  pub is-lift : word b 2 ≡ 7 → orderHere b ≡ lift
-  unfolding orderHere
-  is-lift e = rw e
-
-  pub is-expand : word b 2 ≡ 8 → orderHere b ≡ expand (long b 4)
-  unfolding orderHere
-  is-expand e = rw e
-
-  pub is-shrink : word b 2 ≡ 9 → orderHere b ≡ shrink (long b 4)
-  unfolding orderHere
-  is-shrink e = rw e
 
 -- ---- reading what was written
 

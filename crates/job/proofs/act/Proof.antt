@@ -6,8 +6,7 @@ use native.Mathlib.Nat.{le-antisymm}
 use native.Mathlib.Omega.{arith}
 use lib.ListN.{drop, length-drop}
 use borrow.Author.Needs.{needs}
-use Rattle.job.specs.Format.{sizeOf}
-use Rattle.job.specs.FormatLaws.{is-paint, is-erase, is-build, is-place, is-run, is-lift, is-expand, is-shrink}
+use Rattle.job.specs.Format.{sizeOf, orderHere}
 use Rattle.job.specs.ObeyLaws.{beyond, room, paint-obeyed, erase-obeyed, build-obeyed, expand-obeyed, shrink-obeyed}
 use Rattle.job.proofs.act.Statement.{statement}
 use Rattle.job.proofs.act.Tie as tie
@@ -25,12 +24,13 @@ obey-paint-requires c κs =
     (room (t .args .job .now) (t .args .at) 2 (t .pre .0) (w .word-at .ensures) (i .if1 .taken), t .pre .1 .1)
 
 returns : tie.Need-returns
+unfolding orderHere
 returns c =
     let p = c .before .before in
     let i = p .before .before in
     let w = i .before in
     let t = w .before .before .before in
-    rw (is-paint (drop (t .args .at) (t .args .job .now)) (sym (w .word-at .ensures) ∙ i .if1 .taken)) (paint-obeyed (t .args .map .now) (t .args .scratch .now) (p .obey-paint .ensures))
+    rw (sym (w .word-at .ensures) ∙ i .if1 .taken) (paint-obeyed (t .args .map .now) (t .args .scratch .now) (p .obey-paint .ensures))
 
 obey-erase-requires : tie.Need-obey-erase-requires
 unfolding sizeOf
@@ -41,12 +41,13 @@ obey-erase-requires c κs =
     (room (t .args .job .now) (t .args .at) 3 (t .pre .0) (w .word-at .ensures) (i .if2 .taken), t .pre .1 .1)
 
 returns-2 : tie.Need-returns-2
+unfolding orderHere
 returns-2 c =
     let p = c .before .before in
     let i = p .before .before in
     let w = i .before .before in
     let t = w .before .before .before in
-    rw (is-erase (drop (t .args .at) (t .args .job .now)) (sym (w .word-at .ensures) ∙ i .if2 .taken)) (erase-obeyed (t .args .map .now) (t .args .scratch .now) (p .obey-erase .ensures))
+    rw (sym (w .word-at .ensures) ∙ i .if2 .taken) (erase-obeyed (t .args .map .now) (t .args .scratch .now) (p .obey-erase .ensures))
 
 obey-build-requires : tie.Need-obey-build-requires
 unfolding sizeOf
@@ -57,12 +58,13 @@ obey-build-requires c κs =
     (room (t .args .job .now) (t .args .at) 4 (t .pre .0) (w .word-at .ensures) (i .if3 .taken), t .pre .1 .1)
 
 returns-3 : tie.Need-returns-3
+unfolding orderHere
 returns-3 c =
     let p = c .before .before in
     let i = p .before .before .before .before in
     let w = i .before .before .before in
     let t = w .before .before .before in
-    rw (is-build (drop (t .args .at) (t .args .job .now)) (sym (w .word-at .ensures) ∙ i .if3 .taken)) (build-obeyed (t .pre .1 .1) (p .obey-build .ensures))
+    rw (sym (w .word-at .ensures) ∙ i .if3 .taken) (build-obeyed (t .pre .1 .1) (p .obey-build .ensures))
 
 obey-place-requires : tie.Need-obey-place-requires
 unfolding sizeOf
@@ -73,12 +75,13 @@ obey-place-requires c κs =
     room (t .args .job .now) (t .args .at) 5 (t .pre .0) (w .word-at .ensures) (i .if4 .taken)
 
 returns-4 : tie.Need-returns-4
+unfolding orderHere
 returns-4 c =
     let p = c in
     let i = p .before .before in
     let w = i .before .before .before .before in
     let t = w .before .before .before in
-    rw (is-place (drop (t .args .at) (t .args .job .now)) (sym (w .word-at .ensures) ∙ i .if4 .taken))
+    rw (sym (w .word-at .ensures) ∙ i .if4 .taken)
     (record { answer = p .obey-place .ensures .0; left = rw (← p .obey-place .ensures .0, p .obey-place .ensures .1) })
 
 obey-run-requires : tie.Need-obey-run-requires
@@ -90,21 +93,23 @@ obey-run-requires c κs =
     room (t .args .job .now) (t .args .at) 6 (t .pre .0) (w .word-at .ensures) (i .if5 .taken)
 
 returns-5 : tie.Need-returns-5
+unfolding orderHere
 returns-5 c =
     let p = c in
     let i = p .before .before in
     let w = i .before .before .before .before .before in
     let t = w .before .before .before in
-    rw (is-run (drop (t .args .at) (t .args .job .now)) (sym (w .word-at .ensures) ∙ i .if5 .taken))
+    rw (sym (w .word-at .ensures) ∙ i .if5 .taken)
     (record { answer = p .obey-run .ensures .0; left = rw (← p .obey-run .ensures .0, p .obey-run .ensures .1) })
 
 returns-6 : tie.Need-returns-6
+unfolding orderHere
 returns-6 c =
     let p = c in
     let i = p .before in
     let w = i .before .before .before .before .before .before in
     let t = w .before .before .before in
-    rw (is-lift (drop (t .args .at) (t .args .job .now)) (sym (w .word-at .ensures) ∙ i .if6 .taken))
+    rw (sym (w .word-at .ensures) ∙ i .if6 .taken)
     (record { answer = p .lift .ensures .0; left = rw (p .lift .ensures .1) })
 
 obey-expand-requires : tie.Need-obey-expand-requires
@@ -116,12 +121,13 @@ obey-expand-requires c κs =
     (room (t .args .job .now) (t .args .at) 8 (t .pre .0) (w .word-at .ensures) (i .if7 .taken), t .pre .1 .1)
 
 returns-7 : tie.Need-returns-7
+unfolding orderHere
 returns-7 c =
     let p = c .before .before .before .before in
     let i = p .before .before .before .before in
     let w = i .before .before .before .before .before .before .before in
     let t = w .before .before .before in
-    rw (is-expand (drop (t .args .at) (t .args .job .now)) (sym (w .word-at .ensures) ∙ i .if7 .taken)) (expand-obeyed (t .pre .1 .1) (p .obey-expand .ensures))
+    rw (sym (w .word-at .ensures) ∙ i .if7 .taken) (expand-obeyed (t .pre .1 .1) (p .obey-expand .ensures))
 
 -- the kind that is left
 nine : (c : tie.Else7) → let w = c .before .before .before .before .before .before .before in w .word-at .result ≡ 9
@@ -143,12 +149,13 @@ obey-shrink-requires c κs =
     (room (t .args .job .now) (t .args .at) 9 (t .pre .0) (w .word-at .ensures) (nine i), t .pre .1 .1)
 
 returns-8 : tie.Need-returns-8
+unfolding orderHere
 returns-8 c =
     let p = c .before .before .before .before in
     let i = p .before .before .before .before in
     let w = i .before .before .before .before .before .before .before in
     let t = w .before .before .before in
-    rw (is-shrink (drop (t .args .at) (t .args .job .now)) (sym (w .word-at .ensures) ∙ nine i)) (shrink-obeyed (t .pre .1 .1) (p .obey-shrink .ensures))
+    rw (sym (w .word-at .ensures) ∙ nine i) (shrink-obeyed (t .pre .1 .1) (p .obey-shrink .ensures))
 
 pub act-spec : {M : Type 1} → statement M
 act-spec =

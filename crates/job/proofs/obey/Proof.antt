@@ -4,8 +4,7 @@ use mathlib.Core.Path.{sym, _∙_}
 use native.Mathlib.Omega.{arith}
 use lib.ListN.{drop, length-drop}
 use borrow.Author.Needs.{needs}
-use Rattle.job.specs.Format.{sizeOf}
-use Rattle.job.specs.FormatLaws.{is-opening}
+use Rattle.job.specs.Format.{sizeOf, orderHere}
 use Rattle.job.specs.ObeyLaws.{room, open-obeyed}
 use Rattle.job.proofs.obey.Statement.{statement}
 use Rattle.job.proofs.obey.Tie as tie
@@ -23,12 +22,13 @@ obey-open-requires c κs =
     (room (t .args .job .now) (t .args .at) 1 (t .pre .0) (w .word-at .ensures) (i .if1 .taken), t .pre .1)
 
 returns : tie.Need-returns
+unfolding orderHere
 returns c =
     let p = c .before .before in
     let i = p .before .before in
     let w = i .before in
     let t = w .before .before .before in
-    rw (is-opening (drop (t .args .at) (t .args .job .now)) (sym (w .word-at .ensures) ∙ i .if1 .taken))
+    rw (sym (w .word-at .ensures) ∙ i .if1 .taken)
     (open-obeyed (t .args .map .now) (t .args .scratch .now) (p .obey-open .ensures), p .obey-open .ensures .within)
 
 pub obey-spec : {M : Type 1} → statement M
