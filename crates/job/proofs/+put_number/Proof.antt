@@ -23,147 +23,13 @@ abbrev μ-put-number : Measures 1 put-number-kinds.ps ℕ
 μ-put-number κs a = a .1 .1 .1 .0
 
 abbrev put-number-at : ℕ → In 1 put-number-kinds.ps
-put-number-at t =
-    and 1 put-number-kinds.ps (is 1 put-number-kinds.ps μ-put-number t) put-number.Pre
+put-number-at t = and 1 put-number-kinds.ps (is 1 put-number-kinds.ps μ-put-number t) put-number.Pre
 
 abbrev put-number-below : ℕ → In 1 put-number-kinds.ps
-put-number-below t =
-    and 1 put-number-kinds.ps (falls 1 put-number-kinds.ps _<_ μ-put-number t) put-number.Pre
-
-put-number-returns : (t : ℕ) → put-number-lts.Need-returns (
-  digit-reads.Asked,
-  digit-reads.Learnt,
-  put-byte-reads.Asked,
-  put-byte-reads.Learnt,
-  put-number-below t,
-  put-number.Post,
-) (put-number-at t) put-number.Post
-unfolding digits
-put-number-returns t c = rw (c .if1 .taken) (put-none _ _)
-
-put-number-digit-requires : (t : ℕ) → put-number-lts.Need-digit-requires (
-  digit-reads.Asked,
-  digit-reads.Learnt,
-  put-byte-reads.Asked,
-  put-byte-reads.Learnt,
-  put-number-below t,
-  put-number.Post,
-) (put-number-at t) put-number.Post
-put-number-digit-requires t c κs = search needs
-
-put-number-put-byte-requires : (t : ℕ) → put-number-lts.Need-put-byte-requires (
-  digit-reads.Asked,
-  digit-reads.Learnt,
-  put-byte-reads.Asked,
-  put-byte-reads.Learnt,
-  put-number-below t,
-  put-number.Post,
-) (put-number-at t) put-number.Post
-put-number-put-byte-requires t c κs =
-    let i = c .before .before in
-    let a = i .before .before .before .args in
-    omega (arith, ap length (digits-one (a .most) (a .n) (i .before .if1 .left) (i .if2 .taken)))
-
-put-number-same-length : (t : ℕ) → put-number-lts.Need-same-length (
-  digit-reads.Asked,
-  digit-reads.Learnt,
-  put-byte-reads.Asked,
-  put-byte-reads.Learnt,
-  put-number-below t,
-  put-number.Post,
-) (put-number-at t) put-number.Post
-put-number-same-length t c = search needs
-
-put-number-returns-2 : (t : ℕ) → put-number-lts.Need-returns-2 (
-  digit-reads.Asked,
-  digit-reads.Learnt,
-  put-byte-reads.Asked,
-  put-byte-reads.Learnt,
-  put-number-below t,
-  put-number.Post,
-) (put-number-at t) put-number.Post
-put-number-returns-2 t c =
-    let p = c .before .before in
-    let i = p .before .before .before in
-    let a = i .before .before .before .args in
-    rw (digits-one (a .most) (a .n) (i .before .if1 .left) (i .if2 .taken), ← p .before .digit .ensures) (p .put-byte .ensures)
-
-put-number-sub-put-number : (t : ℕ) → put-number-lts.Need-sub-put-number (
-  digit-reads.Asked,
-  digit-reads.Learnt,
-  put-byte-reads.Asked,
-  put-byte-reads.Learnt,
-  put-number-below t,
-  put-number.Post,
-) (put-number-at t) put-number.Post
-put-number-sub-put-number t c = omega (arith, c .before .before .if1 .left)
-
-put-number-put-number-requires : (t : ℕ) → put-number-lts.Need-put-number-requires (
-  digit-reads.Asked,
-  digit-reads.Learnt,
-  put-byte-reads.Asked,
-  put-byte-reads.Learnt,
-  put-number-below t,
-  put-number.Post,
-) (put-number-at t) put-number.Post
-put-number-put-number-requires t c κs =
-    let i = c .before in
-    let a = i .before .before .before .args in
-    let d = digits-more (a .most) (a .n) (i .before .if1 .left) (omega arith) in
-    (omega (arith, i .before .if1 .left), omega (arith, ap length d, length-append (digits (a .most - 1) (a .n / 10)) ((48 + a .n % 10) ∷ [])))
-
-put-number-digit-requires-2 : (t : ℕ) → put-number-lts.Need-digit-requires-2 (
-  digit-reads.Asked,
-  digit-reads.Learnt,
-  put-byte-reads.Asked,
-  put-byte-reads.Learnt,
-  put-number-below t,
-  put-number.Post,
-) (put-number-at t) put-number.Post
-put-number-digit-requires-2 t c κs = omega arith
-
-put-number-put-byte-requires-2 : (t : ℕ) → put-number-lts.Need-put-byte-requires-2 (
-  digit-reads.Asked,
-  digit-reads.Learnt,
-  put-byte-reads.Asked,
-  put-byte-reads.Learnt,
-  put-number-below t,
-  put-number.Post,
-) (put-number-at t) put-number.Post
-put-number-put-byte-requires-2 t c κs =
-    let p = c .before .before .before .before in
-    let i = p .before .before in
-    let a = i .before .before .before .args in
-    let d = digits-more (a .most) (a .n) (i .before .if1 .left) (omega arith) in
-    omega (arith, p .put-number .ensures .ends, p .put-number .kept .0, ap length d, length-append (digits (a .most - 1) (a .n / 10)) ((48 + a .n % 10) ∷ []))
-
-put-number-same-length-2 : (t : ℕ) → put-number-lts.Need-same-length-2 (
-  digit-reads.Asked,
-  digit-reads.Learnt,
-  put-byte-reads.Asked,
-  put-byte-reads.Learnt,
-  put-number-below t,
-  put-number.Post,
-) (put-number-at t) put-number.Post
-put-number-same-length-2 t c = search needs
-
-put-number-returns-3 : (t : ℕ) → put-number-lts.Need-returns-3 (
-  digit-reads.Asked,
-  digit-reads.Learnt,
-  put-byte-reads.Asked,
-  put-byte-reads.Learnt,
-  put-number-below t,
-  put-number.Post,
-) (put-number-at t) put-number.Post
-put-number-returns-3 t c =
-    let b = c .before .before in
-    let p = b .before .before .before .before .before in
-    let i = p .before .before in
-    let a = i .before .before .before .args in
-    rw (digits-more (a .most) (a .n) (i .before .if1 .left) (omega arith), ← b .before .digit2 .ensures)
-    (put-more (p .put-number .ensures) (b .put-byte2 .ensures))
+put-number-below t = and 1 put-number-kinds.ps (falls 1 put-number-kinds.ps _<_ μ-put-number t) put-number.Pre
 
 pub +put-number-spec : {M : Type 1} → statement M
+unfolding digits
 +put-number-spec = close μ-put-number λ t. put-number-lts.spec (
   digit-reads.Asked,
   digit-reads.Learnt,
@@ -174,14 +40,40 @@ pub +put-number-spec : {M : Type 1} → statement M
 )
     (put-number-at t)
     put-number.Post
-    (put-number-returns t)
-    (put-number-digit-requires t)
-    (put-number-put-byte-requires t)
-    (put-number-same-length t)
-    (put-number-returns-2 t)
-    (put-number-sub-put-number t)
-    (put-number-put-number-requires t)
-    (put-number-digit-requires-2 t)
-    (put-number-put-byte-requires-2 t)
-    (put-number-same-length-2 t)
-    (put-number-returns-3 t)
+    -- no digit
+    (λ c. rw (c .if1 .taken) (put-none _ _))
+    -- one digit: it is below ten, has its room, and is the number
+    (λ c κs. search needs)
+    (λ c κs.
+    let i = c .before .before in
+    let a = i .before .before .before .args in
+    omega (arith, ap length (digits-one (a .most) (a .n) (i .before .if1 .left) (i .if2 .taken))))
+    (λ c. search needs)
+    (λ c.
+    let p = c .before .before in
+    let i = p .before .before .before in
+    let a = i .before .before .before .args in
+    rw (digits-one (a .most) (a .n) (i .before .if1 .left) (i .if2 .taken), ← p .before .digit .ensures) (p .put-byte .ensures))
+    -- the digits before the last: fewer at most, and they have their room
+    (λ c. omega (arith, c .before .before .if1 .left))
+    (λ c κs.
+    let i = c .before in
+    let a = i .before .before .before .args in
+    let d = digits-more (a .most) (a .n) (i .before .if1 .left) (omega arith) in
+    (omega (arith, i .before .if1 .left), omega (arith, ap length d, length-append (digits (a .most - 1) (a .n / 10)) ((48 + a .n % 10) ∷ []))))
+    -- the last digit likewise, and behind the others it completes the number
+    (λ c κs. omega arith)
+    (λ c κs.
+    let p = c .before .before .before .before in
+    let i = p .before .before in
+    let a = i .before .before .before .args in
+    let d = digits-more (a .most) (a .n) (i .before .if1 .left) (omega arith) in
+    omega (arith, p .put-number .ensures .ends, p .put-number .kept .0, ap length d, length-append (digits (a .most - 1) (a .n / 10)) ((48 + a .n % 10) ∷ [])))
+    (λ c. search needs)
+    (λ c.
+    let b = c .before .before in
+    let p = b .before .before .before .before .before in
+    let i = p .before .before in
+    let a = i .before .before .before .args in
+    rw (digits-more (a .most) (a .n) (i .before .if1 .left) (omega arith), ← b .before .digit2 .ensures)
+    (put-more (p .put-number .ensures) (b .put-byte2 .ensures)))
