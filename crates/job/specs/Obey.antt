@@ -19,37 +19,12 @@ use Rattle.job.specs.Text.{textFrom}
 use Rattle.job.specs.declared.Done.{Done}
 use Rattle.job.specs.Run.{Bench, sheetOf, mapOf, answerOf, stepped, callsOf, benchAfter, answersOf, reportOf}
 
--- the buffers are those of the bench
-pub record Left (b : Bench) (sheet : List ℕ) (map scratch : List ℤ) : Type 0 where
-  pub sheet-left : sheet ≡ sheetOf b
-  pub map-left : map ≡ mapOf b
-  pub scratch-left : scratch ≡ b .scratch
-
--- ---- obeying a record
-
 -- a whole record of a known kind stands at the front of the bytes
 pub record Here (b : List ℕ) : Type 0 where
   pub known : (1 ≤ word b 2) × (word b 2 ≤ 9)
   pub header : 4 ≤ length b
   pub said : word b 0 ≡ sizeOf (word b 2)
   pub size : sizeOf (word b 2) ≤ length b
-
--- it was answered with a, and left the bench as `next`
-pub record Obeyed (o : Order) (b : Bench) (a : ℕ) (next : Bench) : Type 0 where
-  pub answer : a ≡ answerOf o b
-  pub left : next ≡ stepped o b
-
--- so many records in: those that are left, from here, do what all of them do from the start
-pub record Running (job : List ℕ) (start : Bench) (empty : List ℕ) (i at end : ℕ) (b : Bench) (out : List ℕ) : Type 0 where
-  pub splitting : splits (length job - i) (drop at job) ≡ true
-  pub bench : benchAfter (ordersIn (length job - i) (drop at job)) b ≡ benchAfter (ordersOf job) start
-  pub text :
-      take end out ++ textFrom (i + 1) (answersOf (callsOf (ordersIn (length job - i) (drop at job)) b) (b .world))
-      ≡ reportOf (ordersOf job) start
-  pub back : drop end out ≡ drop end empty
-  pub count : i + length (ordersIn (length job - i) (drop at job)) ≡ length (ordersOf job)
-  pub begun : (i ≤ at) × (at ≤ length job)
-  pub short : end ≤ 9 * i
 
 -- ---- what the functions that obey one kind of record leave, beside b, the record's bytes
 
@@ -90,3 +65,28 @@ pub record Resized (b : List ℕ) (s : Session) (n : ℕ) (sheet : List ℕ) (ma
   pub lent-map : take (2 * n) left ≡ onDone (r .answer) (unmapped (take (2 * n) map)) (take (2 * n) map)
   pub behind-map : drop (2 * n) left ≡ drop (2 * n) map
   pub left-scratch : worn ≡ onDone (r .answer) (cleared (s .height * s .width) (take n scratch)) (take n scratch) ++ drop n scratch
+
+-- any record was answered with a, and left the bench as `next`
+pub record Obeyed (o : Order) (b : Bench) (a : ℕ) (next : Bench) : Type 0 where
+  pub answer : a ≡ answerOf o b
+  pub left : next ≡ stepped o b
+
+-- ---- a job
+
+-- so many records in: those that are left, from here, do what all of them do from the start
+pub record Running (job : List ℕ) (start : Bench) (empty : List ℕ) (i at end : ℕ) (b : Bench) (out : List ℕ) : Type 0 where
+  pub splitting : splits (length job - i) (drop at job) ≡ true
+  pub bench : benchAfter (ordersIn (length job - i) (drop at job)) b ≡ benchAfter (ordersOf job) start
+  pub text :
+      take end out ++ textFrom (i + 1) (answersOf (callsOf (ordersIn (length job - i) (drop at job)) b) (b .world))
+      ≡ reportOf (ordersOf job) start
+  pub back : drop end out ≡ drop end empty
+  pub count : i + length (ordersIn (length job - i) (drop at job)) ≡ length (ordersOf job)
+  pub begun : (i ≤ at) × (at ≤ length job)
+  pub short : end ≤ 9 * i
+
+-- the buffers are those of the bench
+pub record Left (b : Bench) (sheet : List ℕ) (map scratch : List ℤ) : Type 0 where
+  pub sheet-left : sheet ≡ sheetOf b
+  pub map-left : map ≡ mapOf b
+  pub scratch-left : scratch ≡ b .scratch
