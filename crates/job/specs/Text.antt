@@ -16,6 +16,7 @@ digits (suc k) n = cond (ltb n 10) ((48 + n) ∷ []) (digits k (n / 10) ++ ((48 
 abbrev pub decimal : ℕ → List ℕ
 decimal n = digits 10 n
 
+-- number, space, answer, line feed
 unfoldable pub line : (number answer : ℕ) → List ℕ
 line i a = decimal i ++ ((32 ∷ []) ++ (decimal a ++ (10 ∷ [])))
 

@@ -44,6 +44,12 @@ fn wide(byte: u8) -> u16
     byte as u16
 }
 
+fn wider(word: u16) -> u32
+    ensures { λ r. ⌜ (r ≡ word) × (r ≤ 65535) ⌝ }
+{
+    word as u32
+}
+
 // The 16-bit number at place i of what starts at `at`.
 fn word_at(job: &[u8], at: usize, i: usize) -> u16
     requires { ⌜ (at + i) + 1 < length (now job) ⌝ }
@@ -52,12 +58,6 @@ fn word_at(job: &[u8], at: usize, i: usize) -> u16
     let low = wide(job[at + i]);
     let high = wide(job[at + i + 1]);
     low + 256 * high
-}
-
-fn wider(word: u16) -> u32
-    ensures { λ r. ⌜ (r ≡ word) × (r ≤ 65535) ⌝ }
-{
-    word as u32
 }
 
 // The 32-bit number there.
@@ -207,7 +207,7 @@ fn area(w: u16, h: u16) -> usize
     (h as usize) * (w as usize)
 }
 
-// 1: an opening is lent as much as its sheet needs; if it is refused, the former parts stay.
+// Kind 1, open: it is lent as much as its sheet needs; if it is refused, the former parts stay.
 fn obey_open(s: Session, n: usize, job: &[u8], at: usize, sheet: &mut [u8]) -> Done
     requires { ⌜ (at + 8 ≤ length (now job)) × (n ≤ length (now sheet)) ⌝ }
     ensures { λ r. ⌜ Opened (drop at (now (job .entry))) s n (now (sheet .entry)) r (now (sheet .exit)) ⌝ }
@@ -231,7 +231,7 @@ fn obey_open(s: Session, n: usize, job: &[u8], at: usize, sheet: &mut [u8]) -> D
     }
 }
 
-// 2.
+// Kind 2, paint.
 fn obey_paint(s: Session, n: usize, job: &[u8], at: usize, sheet: &mut [u8]) -> Reply
     requires { ⌜ (at + 12 ≤ length (now job)) × (n ≤ length (now sheet)) ⌝ }
     ensures { λ r. ⌜ Filled 1 (drop at (now (job .entry))) s n (now (sheet .entry)) r (now (sheet .exit)) ⌝ }
@@ -243,7 +243,7 @@ fn obey_paint(s: Session, n: usize, job: &[u8], at: usize, sheet: &mut [u8]) -> 
     s.paint(&mut sheet[..n], x, y, cols, rows)
 }
 
-// 3.
+// Kind 3, erase.
 fn obey_erase(s: Session, n: usize, job: &[u8], at: usize, sheet: &mut [u8]) -> Reply
     requires { ⌜ (at + 12 ≤ length (now job)) × (n ≤ length (now sheet)) ⌝ }
     ensures { λ r. ⌜ Filled 0 (drop at (now (job .entry))) s n (now (sheet .entry)) r (now (sheet .exit)) ⌝ }
@@ -255,7 +255,7 @@ fn obey_erase(s: Session, n: usize, job: &[u8], at: usize, sheet: &mut [u8]) -> 
     s.erase(&mut sheet[..n], x, y, cols, rows)
 }
 
-// 4: a map or scratch buffer that is too short is lent whole, for the session to refuse.
+// Kind 4, build: a map or scratch buffer that is too short is lent whole, for the session to refuse.
 fn obey_build(
     s: Session,
     n: usize,
@@ -279,7 +279,7 @@ fn obey_build(
     )
 }
 
-// 5.
+// Kind 5, place.
 fn obey_place(s: Session, n: usize, job: &[u8], at: usize, map: &[i16]) -> Reply
     requires { ⌜ at + 12 ≤ length (now job) ⌝ }
     ensures { λ r. ⌜ r .answer ≡ placeAnswer s (take (2 * n) (now (map .entry))) (word (drop at (now (job .entry))) 4) (word (drop at (now (job .entry))) 6) (long (drop at (now (job .entry))) 8) ⌝ }
@@ -292,7 +292,7 @@ fn obey_place(s: Session, n: usize, job: &[u8], at: usize, map: &[i16]) -> Reply
     s.place(&map[..numbers], x, y, q)
 }
 
-// 6.
+// Kind 6, run.
 fn obey_run(s: Session, n: usize, job: &[u8], at: usize, map: &[i16]) -> Reply
     requires { ⌜ at + 8 ≤ length (now job) ⌝ }
     ensures { λ r. ⌜ r .answer ≡ runAnswer s (take (2 * n) (now (map .entry))) (word (drop at (now (job .entry))) 4) (word (drop at (now (job .entry))) 6) ⌝ }
@@ -304,7 +304,7 @@ fn obey_run(s: Session, n: usize, job: &[u8], at: usize, map: &[i16]) -> Reply
     s.run(&map[..numbers], direction, count)
 }
 
-// 8.
+// Kind 8, expand.
 fn obey_expand(
     s: Session,
     n: usize,
@@ -328,7 +328,7 @@ fn obey_expand(
     )
 }
 
-// 9.
+// Kind 9, shrink.
 fn obey_shrink(
     s: Session,
     n: usize,
@@ -352,7 +352,7 @@ fn obey_shrink(
     )
 }
 
-// Any record but an opening; 7 is a lift.
+// Any record but an opening; kind 7 is a lift.
 fn act(
     s: Session,
     n: usize,
@@ -390,7 +390,7 @@ fn act(
     obey_shrink(s, n, job, at, sheet, map, scratch)
 }
 
-// A record.
+// Obeys the record at `at`.
 fn obey(
     s: Session,
     n: usize,
