@@ -1,6 +1,6 @@
 // Shows the maps that both scans make of document 01's 4 × 4 board and of sheets of one row and one column.
 ghost use mathlib.Core.Path.{_≡_};
-ghost use Prim.Native.Nat.{_*_, _<_, _≤_};
+ghost use Prim.Native.Nat.{_*_, _<_};
 ghost use lib.ListN.{length};
 
 // One sheet, by one scan.

@@ -1,5 +1,4 @@
 // Maps and sheets as text, for the programs that show them.
-ghost use mathlib.Core.Path.{_≡_};
 ghost use Prim.Native.Nat.{_+_, _*_, _≤_, _<_};
 ghost use lib.ListN.{length};
 ghost use Rattle.raster.specs.Vector.{Short};

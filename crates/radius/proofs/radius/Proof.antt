@@ -1,8 +1,7 @@
 -- `radius::radius` meets its contract. The limits keep both squares in 32 bits; each return rewrites by the tests that led there.
 -- Assumes nothing.
 use mathlib.Core.Path.{_≡_, refl, sym, _∙_}
-use mathlib.Core.Bool.{true, false}
-use Prim.Native.Nat.{ℕ, _*_, _≤_}
+use mathlib.Core.Bool.{true}
 use native.Mathlib.Nat.{mul-le-mul, one-le-mul}
 use native.Mathlib.Omega.{arith}
 use borrow.Author.Needs.{needs}

@@ -1,7 +1,6 @@
 -- `show::row` meets its contract. The invariant: x is at most w.
 -- Assumes nothing.
 use Prim.Native.Nat.{_≤_, _-_}
-use native.Mathlib.Omega.{arith}
 use borrow.Author.Needs.{needs}
 use Rattle.show.proofs.row.Statement.{statement}
 use Rattle.show.proofs.row.Tie as tie

@@ -1,7 +1,6 @@
 -- `show::sheet_row` meets its contract. The invariant: x is at most w.
 -- Assumes nothing.
 use Prim.Native.Nat.{_≤_, _-_}
-use native.Mathlib.Omega.{arith}
 use borrow.Author.Needs.{needs}
 use Rattle.show.proofs.sheet_row.Statement.{statement}
 use Rattle.show.proofs.sheet_row.Tie as tie
