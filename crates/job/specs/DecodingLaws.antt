@@ -1,7 +1,7 @@
 -- The bytes of a job file that splits are those of its records, written one after the other.
 -- Assumes nothing.
 use mathlib.Core.Path.{_≡_, refl, sym, ap, ap₂, _∙_}
-use mathlib.Core.Bool.{Bool, true, false, cond, _&&_, false≢true}
+use mathlib.Core.Bool.{Bool, true, false, cond, false≢true}
 use mathlib.Core.List.{List, [], _∷_, _++_}
 use Prim.Native.Nat.{ℕ, zero, suc, _+_, _*_, _/_, _%_, _<_, _≤_}
 use native.Mathlib.Omega.{arith}
@@ -13,6 +13,7 @@ use borrow.Author.Tests.{eqb-true, eqb-false}
 use Rattle.raster.specs.PixelsLaws.{nothing}
 use Rattle.raster.specs.Tests.{and-right}
 use Rattle.job.specs.Format.{word, sizeOf, sizeHere, orderHere, splits, ordersIn, isJob, ordersOf, wordBytes, encode, encodeAll}
+use Rattle.job.specs.FormatLaws.{size-is}
 use Rattle.job.specs.ObeyLaws.{here}
 
 -- every element is a byte
@@ -65,21 +66,11 @@ module _ (b : List ℕ) (bytes : Bytes b) (fits : word b 0 ≤ length b) where
   written-record (suc (suc (suc (suc (suc (suc (suc (suc (suc zero))))))))) e s l h = let n = halves (word b 4) (word b 6) (word-limit b 4 bytes) in rw (e, s, n .0, n .1) (rw (s, e) at (words-are 4 0 b bytes (omega arith)))
   written-record (suc (suc (suc (suc (suc (suc (suc (suc (suc (suc k)))))))))) e s l h = absurd (omega arith)
 
--- its length is the one it says
-size-said : (b : List ℕ) → (sizeHere b ≡ 0 → ⊥) → sizeHere b ≡ word b 0
-unfolding sizeHere
-size-said b some = go (leb 4 (length b)) (eqb (word b 0) (sizeOf (word b 2)) && leb (word b 0) (length b)) some
-  where
-    go : (t u : Bool) → (cond t (cond u (word b 0) 0) 0 ≡ 0 → ⊥) → cond t (cond u (word b 0) 0) 0 ≡ word b 0
-    go true true n = refl
-    go true false n = absurd (n refl)
-    go false u n = absurd (n refl)
-
 front : (b : List ℕ) → Bytes b → (sizeHere b ≡ 0 → ⊥) → encode (orderHere b) ≡ take (sizeHere b) b
 front b bytes some =
     let h = here b refl some in
-    let s = size-said b some in
-    rw s (written-record b bytes (rw (h .said) (h .size)) (word b 2) refl (h .said) (h .known .0) (h .known .1))
+    let fits : word b 0 ≤ length b = rw (h .said) (h .size) in
+    rw (size-is b (h .header) (h .said) fits) (written-record b bytes fits (word b 2) refl (h .said) (h .known .0) (h .known .1))
 
 written-again : (n : ℕ) (b : List ℕ) → Bytes b → splits n b ≡ true → encodeAll (ordersIn n b) ≡ b
 unfolding splits ordersIn encodeAll

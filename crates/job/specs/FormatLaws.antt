@@ -1,7 +1,7 @@
 -- Laws of the job file's bytes.
 -- Assumes nothing.
-use mathlib.Core.Path.{_≡_, refl, sym, ap, ap₂, _∙_}
-use mathlib.Core.Bool.{Bool, true, false, cond, _&&_}
+use mathlib.Core.Path.{_≡_, refl, ap, ap₂}
+use mathlib.Core.Bool.{true, false, _&&_}
 use mathlib.Core.List.{List, [], _∷_, _++_}
 use Prim.Native.Nat.{ℕ, zero, suc, _+_, _-_, _*_, _/_, _%_, _<_, _≤_}
 use native.Mathlib.Omega.{arith}
@@ -91,21 +91,17 @@ orders-end (suc n) bytes e = rw e
 -- what splitting answered
 pub split-done : (job : List ℕ) {c : Counted} → c ≡ splitOf job → c .answer ≡ 0 → (isJob job ≡ true) × (c .records ≡ length (ordersOf job))
 unfolding splitOf
-split-done job {c} e done = go (isJob job) refl e
-  where
-    go : (t : Bool) → isJob job ≡ t → c ≡ cond t (record { records = length (ordersOf job); answer = 0 }) (record { records = 0; answer = 19 })
-        → (isJob job ≡ true) × (c .records ≡ length (ordersOf job))
-    go true p q = (p, ap (λ (d : Counted). d .records) q)
-    go false p q = absurd (omega (arith, done, ap (λ (d : Counted). d .answer) q))
+split-done job {c} e done =
+    cond-ind (λ (d : Counted). c ≡ d → (isJob job ≡ true) × (c .records ≡ length (ordersOf job))) (isJob job)
+    (λ is q. (is, ap (λ (d : Counted). d .records) q))
+    (λ _ q. absurd (omega (arith, done, ap (λ (d : Counted). d .answer) q))) e
 
 pub split-refused : (job : List ℕ) {c : Counted} → c ≡ splitOf job → (c .answer ≡ 0 → ⊥) → isJob job ≡ false
 unfolding splitOf
-split-refused job {c} e some = go (isJob job) refl e
-  where
-    go : (t : Bool) → isJob job ≡ t → c ≡ cond t (record { records = length (ordersOf job); answer = 0 }) (record { records = 0; answer = 19 })
-        → isJob job ≡ false
-    go true p q = absurd (some (ap (λ (d : Counted). d .answer) q))
-    go false p q = p
+split-refused job {c} e some =
+    cond-ind (λ (d : Counted). c ≡ d → isJob job ≡ false) (isJob job)
+    (λ _ q. absurd (some (ap (λ (d : Counted). d .answer) q)))
+    (λ is _. is) e
 
 -- ---- reading what was written
 
@@ -115,7 +111,7 @@ halves n = omega (arith, div-add-mod' n 256)
 whole : (n : ℕ) → n % 65536 + 65536 * (n / 65536) ≡ n
 whole n = omega (arith, div-add-mod' n 65536)
 
-size-is : (bytes : List ℕ) → 4 ≤ length bytes → word bytes 0 ≡ sizeOf (word bytes 2) → word bytes 0 ≤ length bytes → sizeHere bytes ≡ word bytes 0
+pub size-is : (bytes : List ℕ) → 4 ≤ length bytes → word bytes 0 ≡ sizeOf (word bytes 2) → word bytes 0 ≤ length bytes → sizeHere bytes ≡ word bytes 0
 unfolding sizeHere
 size-is bytes four same fits =
     rw (le-leb 4 (length bytes) four, eq-eqb (word bytes 0) (sizeOf (word bytes 2)) same, le-leb (word bytes 0) (length bytes) fits)

@@ -93,10 +93,11 @@ scratchAfter (place x y q) a b = b .scratch
 scratchAfter (run d n) a b = b .scratch
 scratchAfter lift a b = b .scratch
 
--- what a record answers, and what it leaves
+-- what a record answers
 abbrev pub answerOf : Order → Bench → ℕ
 answerOf o b = answer (callOf o b) (b .world)
 
+-- what it leaves
 abbrev pub stepped : Order → Bench → Bench
 stepped o b =
     record {

@@ -4,7 +4,7 @@ use mathlib.Core.Path.{_≡_, sym, _∙_}
 use Prim.Native.Nat.{_≤_}
 use native.Mathlib.Nat.{le-antisymm}
 use native.Mathlib.Omega.{arith}
-use lib.ListN.{drop, length-drop}
+use lib.ListN.{length-drop}
 use borrow.Author.Needs.{needs}
 use Rattle.job.specs.Format.{sizeOf, orderHere}
 use Rattle.job.specs.ObeyLaws.{beyond, room, paint-obeyed, erase-obeyed, build-obeyed, expand-obeyed, shrink-obeyed}
