@@ -1,12 +1,10 @@
 -- `scan::from_three` meets its contract. The invariant: map and flag are what the x pixels passed make of those at entry, `left` and `mid` are the
 -- vectors of the pixels x − 1 and x of the row before, if there are such, with the step; the writes in row y leave those alone.
 -- Assumes nothing.
-use mathlib.Core.Path.{_≡_, refl, ap, _∙_}
+use mathlib.Core.Path.{_≡_, refl, sym, ap, _∙_}
 use mathlib.Core.Logic.{_≢_}
 use mathlib.Core.Bool.{Bool, true, false≢true}
 use Prim.Native.Nat.{ℕ, _+_, _-_, _≤_, _<_}
-use native.Mathlib.Decide.{decLt}
-use native.Mathlib.Nat.{mul-le-mul-right}
 use native.Mathlib.Omega.{arith}
 use lib.Dec.{ltb}
 use lib.IntN.{ℤ, pos, negsuc, _-ℤ_}
@@ -19,6 +17,7 @@ use borrow.Author.Tests.{lt-ltb, ltb-true}
 use Rattle.raster.specs.Loop.{ascend}
 use Rattle.raster.specs.LoopLaws.{up-turn}
 use Rattle.raster.specs.Pixels.{index}
+use Rattle.raster.specs.PixelsLaws.{index-one}
 use Rattle.scan.specs.declared.Held.{Held}
 use Rattle.scan.specs.Scan.{State, state, take, fromRight, fromThree, fromRow}
 use Rattle.scan.specs.Holding.{Seen, told}
@@ -28,17 +27,14 @@ use Rattle.scan.proofs.from_three.Tie as tie
 
 -- ---- one pixel
 
--- pixels of different rows are different
-elsewhere : (w x y z b : ℕ) → y ≢ b → x < w → z < w → index w z b ≢ index w x y
-elsewhere w x y z b n h k e = elim (decLt y b) [
-  | yes l ↦ omega (arith, mul-le-mul-right w l, e)
-  | no p ↦ elim (decLt b y) [ yes l ↦ omega (arith, mul-le-mul-right w l, e) | no q ↦ n (omega arith) ]
-]
-
 module _ (w y b : ℕ) (o : ℤ) (rows : y ≢ b) (x : ℕ) (on : x < w) (s : State) {left mid right : Held}
     (l : Seen (ltb 0 x) o left (s .map) (index w (x - 1) b)) (m : Seen (ltb x w) o mid (s .map) (index w x b)) (r : Seen (ltb (x + 1) w) o right (s .map) (index w (x + 1) b)) where
   abbrev at : ℕ
   at = index w x y
+
+  -- pixels of the row before are others
+  elsewhere : (z : ℕ) → z < w → index w z b ≢ at
+  elsewhere z k e = rows (sym (index-one w z b x y k on e .1))
 
   -- after one, two and three candidates
   abbrev one : State
@@ -52,22 +48,19 @@ module _ (w y b : ℕ) (o : ℤ) (rows : y ≢ b) (x : ℕ) (on : x < w) (s : St
 
   -- a pixel of the row before is still what it was
   stays-one : {t : Bool} {n : Held} (z : ℕ) → (t ≡ true → z < w) → Seen t o n (s .map) (index w z b) → Seen t o n (one .map) (index w z b)
-  stays-one z k e = seen-stays at s e (left .dx) (left .dy -ℤ o) (negsuc 0) o (λ f. elsewhere w x y z b rows on (k f))
+  stays-one z k e = seen-stays at s e (left .dx) (left .dy -ℤ o) (negsuc 0) o (λ f. elsewhere z (k f))
 
   stays-two : {t : Bool} {n : Held} (z : ℕ) → (t ≡ true → z < w) → Seen t o n (s .map) (index w z b) → Seen t o n (two .map) (index w z b)
-  stays-two z k e = seen-stays at one (stays-one z k e) (mid .dx) (mid .dy -ℤ o) (pos 0) o (λ f. elsewhere w x y z b rows on (k f))
+  stays-two z k e = seen-stays at one (stays-one z k e) (mid .dx) (mid .dy -ℤ o) (pos 0) o (λ f. elsewhere z (k f))
 
   stays : {t : Bool} {n : Held} (z : ℕ) → (t ≡ true → z < w) → Seen t o n (s .map) (index w z b) → Seen t o n (all .map) (index w z b)
-  stays z k e = seen-stays at two (stays-two z k e) (right .dx) (right .dy -ℤ o) (pos 1) o (λ f. elsewhere w x y z b rows on (k f))
-
-  beyond : ltb (x + 1) w ≡ true → x + 1 < w
-  beyond e = ltb-true (x + 1) w e
+  stays z k e = seen-stays at two (stays-two z k e) (right .dx) (right .dy -ℤ o) (pos 1) o (λ f. elsewhere z (k f))
 
   made : all ≡ fromThree w true y b o x s
   unfolding fromThree
   made =
       let h = stays-one x (λ _. on) m .there (lt-ltb x w on) in
-      seen-told at two (stays-two (x + 1) beyond r) (pos 1)
+      seen-told at two (stays-two (x + 1) (ltb-true (x + 1) w) r) (pos 1)
       ∙ ap (fromRight w true y b o x)
       (holds-told at (index w x b) (pos 0) o one (h .dx) (h .dy) ∙ ap (take at (index w x b) (pos 0) o) (seen-told at s l (negsuc 0)))
 
@@ -78,7 +71,7 @@ module _ (w y b : ℕ) (o : ℤ) (rows : y ≢ b) (x : ℕ) (on : x < w) (s : St
       rw (lt-ltb 0 (x + 1) (omega arith), ← e, ← lt-ltb x w on) (stays x (λ _. on) m)
 
   next-mid : Seen (ltb (x + 1) w) o right (all .map) (index w (x + 1) b)
-  next-mid = stays (x + 1) beyond r
+  next-mid = stays (x + 1) (ltb-true (x + 1) w) r
 
 -- ---- the loop
 
