@@ -1,11 +1,11 @@
 -- `scan::growth` meets its contract. A step is −1, 0 or 1, as the tests say, and what is cast is 4,097 + 2v or 4,097 − 2v, which is not negative.
 -- Assumes nothing.
-use mathlib.Core.Path.{_≡_, refl, ap, subst, _∙_}
+use mathlib.Core.Path.{_≡_, refl, sym, ap, subst, _∙_}
 use mathlib.Core.Bool.{Bool, not}
-use Prim.Native.Nat.{ℕ, zero, suc, _+_, _-_, _≤_}
+use Prim.Native.Nat.{zero, suc, _+_, _-_, _≤_}
 use native.Mathlib.Omega.{arith}
 use lib.Dec.{T, ltb→lt}
-use lib.IntN.{ℤ, pos, negsuc, natAbs, negℤ, subℕ, _+ℤ_, +ℤ-idr}
+use lib.IntN.{ℤ, pos, negsuc, natAbs, negℤ, subℕ, _+ℤ_, +ℤ-idr, negℤ-+ℤ}
 use lib.Signed.{ltZ, nonNeg}
 use mir.Syntax.{w32}
 use mir.Val.{SFits}
@@ -37,7 +37,10 @@ no-step (pos zero) s t u = refl
 no-step (pos (suc n)) s t u = absurd (subst (λ (b : Bool). T (not b)) (lt-ltb 0 (suc n) (omega arith)) u)
 no-step (negsuc n) s t u = absurd t
 
--- ---- what is cast
+-- ---- what is cast: 4,097 + 2v, and 4,097 − 2v, which is that of −v
+
+abbrev more : ℤ → ℤ
+more v = pos 4097 +ℤ (v +ℤ v)
 
 module _ (v : ℤ) (near : natAbs v ≤ 2048) where
   twice : natAbs (v +ℤ v) ≤ 4096
@@ -46,44 +49,27 @@ module _ (v : ℤ) (near : natAbs v ≤ 2048) where
   twice-fits : SFits w32 (v +ℤ v)
   twice-fits = wide-fits (v +ℤ v) (omega (arith, twice))
 
-  abbrev more : ℤ
-  more = pos 4097 +ℤ (v +ℤ v)
-
-  abbrev less : ℤ
-  less = pos 4097 +ℤ negℤ (v +ℤ v)
-
-  more-far : natAbs more ≤ 8193
+  more-far : natAbs (more v) ≤ 8193
   more-far = omega (arith, twice, add-abs (pos 4097) (v +ℤ v))
 
-  less-far : natAbs less ≤ 8193
-  less-far = omega (arith, twice, minus-abs (v +ℤ v), add-abs (pos 4097) (negℤ (v +ℤ v)))
+  more-fits : SFits w32 (more v)
+  more-fits = wide-fits (more v) (omega (arith, more-far))
 
-  more-fits : SFits w32 more
-  more-fits = wide-fits more (omega (arith, more-far))
+  near-minus : natAbs (negℤ v) ≤ 2048
+  near-minus = rw (minus-abs v) near
 
-  less-fits : SFits w32 less
-  less-fits = wide-fits less (omega (arith, less-far))
-
--- where it is a number k and the component after the step is u
-cast-is : {z u : ℤ} (v w : ℤ) (k : ℕ) → z ≡ pos k → u ≡ w → k + square v ≡ 4096 + square w → T (nonNeg z) × (natAbs z + square v ≡ 4096 + square u)
-cast-is v w k e f h = rw (e, f) (tt, h)
-
-more-is : (v : ℤ) (near : natAbs v ≤ 2048) → T (nonNeg (more v near)) × (natAbs (more v near) + square v ≡ 4096 + square (v +ℤ pos 1))
+more-is : (v : ℤ) → natAbs v ≤ 2048 → T (nonNeg (more v)) × (natAbs (more v) + square v ≡ 4096 + square (v +ℤ pos 1))
 more-is (pos n) near = (tt, omega arith)
 more-is (negsuc zero) near = (tt, refl)
 more-is (negsuc (suc n)) near =
     let z : subℕ 4097 (suc (suc (suc n + suc n))) ≡ pos (4093 - (n + n)) = simp (le-ltb 4097 (suc (suc (suc n + suc n))) (omega arith)) (ap pos (omega arith)) in
     let u : subℕ 1 (suc (suc n)) ≡ negsuc n = simp (lt-ltb 1 (suc (suc n)) (omega arith)) (ap negsuc (omega arith)) in
-    cast-is (negsuc (suc n)) (negsuc n) (4093 - (n + n)) z u (omega arith)
+    rw (z, u) (tt, omega arith)
 
-less-is : (v : ℤ) (near : natAbs v ≤ 2048) → T (nonNeg (less v near)) × (natAbs (less v near) + square v ≡ 4096 + square (v +ℤ negsuc 0))
-less-is (pos zero) near = (tt, refl)
-less-is (pos (suc n)) near =
-    let e : suc n + suc n ≡ suc (suc (n + n)) = omega arith in
-    let z : subℕ 4097 (suc (suc (n + n))) ≡ pos (4095 - (n + n)) = simp (le-ltb 4097 (suc (suc (n + n))) (omega arith)) (ap pos (omega arith)) in
-    let u : subℕ (suc n) 1 ≡ pos n = simp (le-ltb (suc n) 1 (omega arith)) (ap pos (omega arith)) in
-    cast-is (pos (suc n)) (pos n) (4095 - (n + n)) (ap (λ (k : ℕ). pos 4097 +ℤ negℤ (pos k)) e ∙ z) u (omega arith)
-less-is (negsuc n) near = (tt, omega arith)
+less-is : (v : ℤ) → natAbs (negℤ v) ≤ 2048 → natAbs (more (negℤ v)) + square v ≡ 4096 + square (v +ℤ negsuc 0)
+less-is v near =
+    let m : natAbs (v +ℤ negsuc 0) ≡ natAbs (negℤ v +ℤ pos 1) = sym (minus-abs (v +ℤ negsuc 0)) ∙ ap natAbs (negℤ-+ℤ v (negsuc 0)) in
+    rw (m, ← minus-abs v) (more-is (negℤ v) near .1)
 
 -- ---- the needs
 
@@ -95,20 +81,23 @@ add-result c =
 sub-result : tie.Need-sub-result
 sub-result c =
     let s = c .before in
-    simp (toZ-ofZ, s .fits .v, twice-fits (s .args .v) (s .pre .0)) (less-fits (s .args .v) (s .pre .0))
+    let v = s .args .v in
+    simp (toZ-ofZ, s .fits .v, twice-fits v (s .pre .0), negℤ-+ℤ v v) (more-fits (negℤ v) (near-minus v (s .pre .0)))
 
 cast-result : tie.Need-cast-result
 cast-result c =
     let s = c .before in
-    let n = s .pre .0 in
-    simp (toZ-ofZ, s .fits .v, twice-fits (s .args .v) n, less-fits (s .args .v) n) (less-is (s .args .v) n .0, omega (arith, less-far (s .args .v) n))
+    let v = s .args .v in
+    let n = near-minus v (s .pre .0) in
+    simp (toZ-ofZ, s .fits .v, twice-fits v (s .pre .0), negℤ-+ℤ v v, more-fits (negℤ v) n) (more-is (negℤ v) n .0, omega (arith, more-far (negℤ v) n))
 
 returns : tie.Need-returns
 returns c =
     let s = c .before in
-    let n = s .pre .0 in
+    let v = s .args .v in
+    let n = near-minus v (s .pre .0) in
     let o = step-down (s .args .o) (s .pre .1) (simp (toZ-ofZ, s .fits .o) at (holds (c .if1 .taken))) in
-    simp (toZ-ofZ, s .fits .v, twice-fits (s .args .v) n, less-fits (s .args .v) n, o) (less-is (s .args .v) n .1, less-far (s .args .v) n)
+    simp (toZ-ofZ, s .fits .v, twice-fits v (s .pre .0), negℤ-+ℤ v v, more-fits (negℤ v) n, o) (less-is v n, more-far (negℤ v) n)
 
 add-result-2 : tie.Need-add-result-2
 add-result-2 c =
@@ -118,20 +107,23 @@ add-result-2 c =
 add-result-3 : tie.Need-add-result-3
 add-result-3 c =
     let s = c .before .before in
-    simp (toZ-ofZ, s .fits .v, twice-fits (s .args .v) (s .pre .0)) (more-fits (s .args .v) (s .pre .0))
+    let v = s .args .v in
+    simp (toZ-ofZ, s .fits .v, twice-fits v (s .pre .0)) (more-fits v (s .pre .0))
 
 cast-result-2 : tie.Need-cast-result-2
 cast-result-2 c =
     let s = c .before .before in
+    let v = s .args .v in
     let n = s .pre .0 in
-    simp (toZ-ofZ, s .fits .v, twice-fits (s .args .v) n, more-fits (s .args .v) n) (more-is (s .args .v) n .0, omega (arith, more-far (s .args .v) n))
+    simp (toZ-ofZ, s .fits .v, twice-fits v n, more-fits v n) (more-is v n .0, omega (arith, more-far v n))
 
 returns-2 : tie.Need-returns-2
 returns-2 c =
     let s = c .before .before in
+    let v = s .args .v in
     let n = s .pre .0 in
     let o = step-up (s .args .o) (s .pre .1) (simp (toZ-ofZ, s .fits .o) at (holds (c .if2 .taken))) in
-    simp (toZ-ofZ, s .fits .v, twice-fits (s .args .v) n, more-fits (s .args .v) n, o) (more-is (s .args .v) n .1, more-far (s .args .v) n)
+    simp (toZ-ofZ, s .fits .v, twice-fits v n, more-fits v n, o) (more-is v n .1, more-far v n)
 
 returns-3 : tie.Need-returns-3
 returns-3 c =
