@@ -2,7 +2,7 @@
 -- its way to that pixel. Scan one has r k = k, scan two r k = h − 1 − k.
 -- Assumes nothing.
 use mathlib.Core.Path.{_≡_, ap, subst}
-use mathlib.Core.Logic.{_⊎_, inl, inr}
+use mathlib.Core.Logic.{inl, inr}
 use mathlib.Core.Bool.{Bool, cond}
 use Prim.Native.Nat.{ℕ, zero, suc, _+_, _-_, _≤_, _<_}
 use native.Mathlib.Decide.{decLt}
@@ -22,17 +22,23 @@ use Rattle.scan.specs.Scan.{State, rightward, leftward, fromRow, upRow}
 use Rattle.scan.proofs.Within.{Within, relaxed}
 use Rattle.scan.proofs.Cost.{Way, here, straight, corner, side}
 use Rattle.scan.proofs.Progress.{Fine, Grows, onward, either, loop-grows}
-use Rattle.scan.proofs.Sweeps.{Paid, Settled, rightward-grows, leftward-grows, row-within}
+use Rattle.scan.proofs.Sweeps.{Settled, rightward-grows, leftward-grows, row-within}
 use Rattle.scan.proofs.Rows.{from-row-grows, from-row-settles}
 
-module _ (copper : Mask) (w h : ℕ) (wide : w ≤ maxSide) (tall : h ≤ maxSide) (corners : Bool) where
-  -- an order of the rows, each at o from the next
-  pub record Order (r : ℕ → ℕ) (o : ℤ) : Type 0 where
-    pub on : (k : ℕ) → k < h → r k < h
-    pub next : (k : ℕ) → k + 1 < h → pos (r (k + 1)) +ℤ o ≡ pos (r k)
-    pub unit : Step o
+-- an order of the rows, each at o from the next
+pub record Order (h : ℕ) (r : ℕ → ℕ) (o : ℤ) : Type 0 where
+  pub on : (k : ℕ) → k < h → r k < h
+  pub next : (k : ℕ) → k + 1 < h → pos (r (k + 1)) +ℤ o ≡ pos (r k)
+  pub unit : Step o
 
-  module _ (r : ℕ → ℕ) (o : ℤ) (order : Order r o) where
+pub downwards : (h : ℕ) → Order h (λ k. k) (negsuc 0)
+downwards h = record { on = λ k l. l; next = λ k l. step-back k; unit = omega arith }
+
+pub upwards : (h : ℕ) → Order h (λ k. h - 1 - k) (pos 1)
+upwards h = record { on = λ k l. omega arith; next = λ k l. ap pos (omega arith); unit = omega arith }
+
+module _ (copper : Mask) (w h : ℕ) (wide : w ≤ maxSide) (tall : h ≤ maxSide) (corners : Bool) where
+  module _ (r : ℕ → ℕ) (o : ℤ) (order : Order h r o) where
     -- row r k from the row before it, if there is one; then both sweeps
     abbrev entered : ℕ → State → State
     entered k s = cond (ltb 0 k) (fromRow w corners (r k) (r (k - 1)) o s) s
@@ -64,14 +70,13 @@ module _ (copper : Mask) (w h : ℕ) (wide : w ≤ maxSide) (tall : h ≤ maxSid
 
       module _ (n : ℕ) (on : n < h) (s : State) (fine : Fine copper w h s) where
         abbrev Ready : Type 0
-        Ready = Settled copper w h wide tall (r n) (order .on n on) i mid (λ u. K u (n - a)) (entered n s)
+        Ready = (x : ℕ) → x < w → Settled w (r n) i (λ u. K u (n - a)) (entered n s) x
 
         -- the copper pixel's own row
         first : n ≡ a → Within (s .map) (index w i (r a)) 0 → Ready
         first e start x across = go (ways (gap x i) (n - a))
           where
-            go : Way corners K (gap x i) (n - a)
-                → Within (entered n s .map) (index w x (r n)) (K (gap x i) (n - a)) ⊎ Paid copper w h wide tall (r n) (order .on n on) i mid (λ u. K u (n - a)) x
+            go : Way corners K (gap x i) (n - a) → Settled w (r n) i (λ u. K u (n - a)) (entered n s) x
             go (here f g) =
                 let z = gap-zero x i f in
                 inl (relaxed (omega arith) (entered-grows n on s fine .keeps _ 0 (rw (z, e) start)))
@@ -85,7 +90,7 @@ module _ (copper : Mask) (w h : ℕ) (wide : w ≤ maxSide) (tall : h ≤ maxSid
             let some : 0 < n = omega arith in
             let e : n - 1 - a + 1 ≡ n - a = omega arith in
             rw (lt-ltb 0 n some)
-            (subst (λ (v : ℕ). Within (fromRow w corners (r n) (r (n - 1)) o s .map) (index w x (r n)) (K (gap x i) v) ⊎ Paid copper w h wide tall (r n) (order .on n on) i mid (λ u. K u v) x) e
+            (subst (λ (v : ℕ). Settled w (r n) i (λ u. K u v) (fromRow w corners (r n) (r (n - 1)) o s) x) e
             (from-row-settles copper w h wide tall corners (r n) (r (n - 1)) (order .on n on) (order .on (n - 1) (omega arith)) o (order .unit) (before n some on)
             i mid K (n - 1 - a) (λ u. ways u (n - 1 - a + 1)) s fine (reached (n - 1) (omega arith) (omega arith)) x across))
 
@@ -107,18 +112,11 @@ module _ (copper : Mask) (w h : ℕ) (wide : w ≤ maxSide) (tall : h ≤ maxSid
                 (one-row n (omega arith) _ (g .fine) (omega arith) (g .keeps _ _ start) ih x on)
           ]
 
-  -- ---- the two scans
-
-  pub downwards : Order (λ k. k) (negsuc 0)
-  downwards = record { on = λ k l. l; next = λ k l. step-back k; unit = omega arith }
-
-  pub upwards : Order (λ k. h - 1 - k) (pos 1)
-  upwards = record { on = λ k l. omega arith; next = λ k l. ap pos (omega arith); unit = omega arith }
-
-  pub scan-two : (s : State) → descend (upRow w corners h) h s ≡ ascend (rowAt (λ k. h - 1 - k) (pos 1) upwards) h s
-  scan-two s = reversed h (upRow w corners h) (rowAt (λ k. h - 1 - k) (pos 1) upwards) s same
+  -- scan two takes the rows upwards
+  pub scan-two : (s : State) → descend (upRow w corners h) h s ≡ ascend (rowAt (λ k. h - 1 - k) (pos 1) (upwards h)) h s
+  scan-two s = reversed h (upRow w corners h) (rowAt (λ k. h - 1 - k) (pos 1) (upwards h)) s same
     where
-      same : (k : ℕ) → k < h → (t : State) → rowAt (λ j. h - 1 - j) (pos 1) upwards k t ≡ upRow w corners h (h - 1 - k) t
+      same : (k : ℕ) → k < h → (t : State) → rowAt (λ j. h - 1 - j) (pos 1) (upwards h) k t ≡ upRow w corners h (h - 1 - k) t
       same zero l t = rw (le-ltb (h - 1 - 0 + 1) h (omega arith))
       same (suc k) l t =
           let e : h - 1 - suc k + 1 ≡ h - 1 - (suc k - 1) = omega arith in

@@ -1,8 +1,8 @@
 -- What the step from row to row does: if the row before is within its costs, then each pixel of the row whose way ends by a step from there is within
 -- its own, and for any other the side step towards column i is paid for.
 -- Assumes nothing.
-use mathlib.Core.Path.{_≡_, refl, sym, ap, subst, _∙_}
-use mathlib.Core.Logic.{_⊎_, inl, inr, ⊎-elim}
+use mathlib.Core.Path.{_≡_, refl, ap, subst}
+use mathlib.Core.Logic.{inl, inr, ⊎-elim}
 use mathlib.Core.Bool.{Bool, true, _&&_}
 use Prim.Native.Nat.{ℕ, zero, suc, _+_, _-_, _≤_, _<_}
 use native.Mathlib.Decide.{decLt}
@@ -23,7 +23,7 @@ use Rattle.scan.proofs.Sound.{Hop}
 use Rattle.scan.proofs.Within.{Within, relaxed}
 use Rattle.scan.proofs.Cost.{Way, here, straight, corner, side}
 use Rattle.scan.proofs.Progress.{Fine, Grows, onward, either, loop-grows, take-grows, take-side, take-corner}
-use Rattle.scan.proofs.Sweeps.{Paid}
+use Rattle.scan.proofs.Sweeps.{Settled}
 
 module _ (copper : Mask) (w h : ℕ) (wide : w ≤ maxSide) (tall : h ≤ maxSide) (corners : Bool)
     (y b : ℕ) (down : y < h) (down′ : b < h) (o : ℤ) (unit : Step o) (next : pos y +ℤ o ≡ pos b) where
@@ -77,44 +77,39 @@ module _ (copper : Mask) (w h : ℕ) (wide : w ≤ maxSide) (tall : h ≤ maxSid
     abbrev Before : State → Type 0
     Before s = (z : ℕ) → z < w → Within (s .map) (index w z b) (K (gap z i) v)
 
-    -- a pixel is within its cost, or its side step is paid for
     abbrev Settles : State → ℕ → Type 0
-    Settles s x = Within (s .map) (index w x y) (K (gap x i) (v + 1)) ⊎ Paid copper w h wide tall y down i mid (λ u. K u (v + 1)) x
+    Settles = Settled w y i (λ u. K u (v + 1))
 
-    three-settles : (x : ℕ) → x < w → (s : State) → Fine copper w h s → Before s → Settles (fromThree w corners y b o x s) x
-    unfolding fromThree
-    three-settles x on s fine before = go (ways (gap x i))
-      where
-        first : Grows copper w h s (fromLeft w corners y b o x s)
-        first = left-grows x on s fine
+    module _ (x : ℕ) (on : x < w) (s : State) (fine : Fine copper w h s) (before : Before s) where
+      first : Grows copper w h s (fromLeft w corners y b o x s)
+      first = left-grows x on s fine
 
-        second : Grows copper w h s (take (index w x y) (index w x b) (pos 0) o (fromLeft w corners y b o x s))
-        second = onward copper w h first (middle-grows x on _ (first .fine))
+      second : Grows copper w h s (take (index w x y) (index w x b) (pos 0) o (fromLeft w corners y b o x s))
+      second = onward copper w h first (middle-grows x on _ (first .fine))
 
-        go : Way corners K (gap x i) (v + 1) → Settles (fromRight w corners y b o x (take (index w x y) (index w x b) (pos 0) o (fromLeft w corners y b o x s))) x
-        go (here e f) = absurd (omega arith)
-        go (straight v′ e p) =
-            let f : v′ ≡ v = omega arith in
-            inl (right-grows x on _ (second .fine) .keeps _ _
-            (relaxed (rw f at p) (take-side copper w h wide tall _ (first .fine) x y x b (pos 0) o (at-middle x on) (K (gap x i) v) (omega arith) (first .keeps _ _ (before x on)))))
-        go (corner u′ v′ c e f p) = inl (by-side (decLt i x))
-          where
-            same : (n : ℕ) → gap x i ≡ n + 1 → K n v + 17 ≤ K (gap x i) (v + 1)
-            same n g = let a : u′ ≡ n = omega arith in let d : v′ ≡ v = omega arith in rw (a, d) at p
+      -- from the corner towards column i
+      by-corner : (u : ℕ) → corners ≡ true → gap x i ≡ u + 1 → K u v + 17 ≤ K (gap x i) (v + 1) → Dec (i < x) → Dec (x < i)
+          → Within (fromThree w corners y b o x s .map) (index w x y) (K (gap x i) (v + 1))
+      unfolding fromThree
+      by-corner u c e p (yes l) d =
+          let z : x - 1 + 1 ≡ x = omega arith in
+          let n : u ≡ gap (x - 1) i = omega (arith, ap (λ (t : ℕ). gap t i) z, gap-right (x - 1) i (omega arith)) in
+          right-grows x on _ (second .fine) .keeps _ _ (middle-grows x on _ (first .fine) .keeps _ _
+          (relaxed (rw n at p) (left-corner x on s fine c (omega arith) (K (gap (x - 1) i) v) (before (x - 1) (omega arith)))))
+      by-corner u c e p (no m) (yes l) =
+          let n : u ≡ gap (x + 1) i = omega (arith, gap-left x i l) in
+          relaxed (rw n at p) (right-corner x on _ (second .fine) c (omega arith) (K (gap (x + 1) i) v) (second .keeps _ _ (before (x + 1) (omega arith))))
+      by-corner u c e p (no m) (no l) = let z : x ≡ i = omega arith in absurd (omega (arith, e, gap-self i, ap (λ (t : ℕ). gap t i) z))
 
-            by-side : Dec (i < x) → Within (fromRight w corners y b o x (take (index w x y) (index w x b) (pos 0) o (fromLeft w corners y b o x s)) .map) (index w x y) (K (gap x i) (v + 1))
-            by-side (yes q) =
-                let z : x - 1 + 1 ≡ x = omega arith in
-                let g : gap x i ≡ gap (x - 1) i + 1 = ap (λ (t : ℕ). gap t i) (sym z) ∙ gap-right (x - 1) i (omega arith) in
-                right-grows x on _ (second .fine) .keeps _ _ (middle-grows x on _ (first .fine) .keeps _ _
-                (relaxed (same (gap (x - 1) i) g) (left-corner x on s fine c (omega arith) (K (gap (x - 1) i) v) (before (x - 1) (omega arith)))))
-            by-side (no q) =
-                let l : x < i = off (omega arith) in
-                relaxed (same (gap (x + 1) i) (gap-left x i l)) (right-corner x on _ (second .fine) c (omega arith) (K (gap (x + 1) i) v) (second .keeps _ _ (before (x + 1) (omega arith))))
-              where
-                off : x ≤ i → x < i
-                off l = elim (decLt x i) [ yes m ↦ m | no m ↦ absurd (let z : x ≡ i = omega arith in omega (arith, gap-self i, ap (λ (t : ℕ). gap t i) z)) ]
-        go (side u′ e p) = inr (record { nearer = u′; one = e; pays = p })
+      three-settles : Way corners K (gap x i) (v + 1) → Settles (fromThree w corners y b o x s) x
+      unfolding fromThree
+      three-settles (here e f) = absurd (omega arith)
+      three-settles (straight v′ e p) =
+          let f : v′ ≡ v = omega arith in
+          inl (right-grows x on _ (second .fine) .keeps _ _
+          (relaxed (rw f at p) (take-side copper w h wide tall _ (first .fine) x y x b (pos 0) o (at-middle x on) (K (gap x i) v) (omega arith) (first .keeps _ _ (before x on)))))
+      three-settles (corner u v′ c e f p) = let g : v′ ≡ v = omega arith in inl (by-corner u c e (rw g at p) (decLt i x) (decLt x i))
+      three-settles (side u e p) = inr (record { nearer = u; one = e; pays = p })
 
     some-settle : (n : ℕ) → n ≤ w → (s : State) → Fine copper w h s → Before s → (x : ℕ) → x < n → Settles (ascend (fromThree w corners y b o) n s) x
     unfolding ascend
@@ -125,7 +120,7 @@ module _ (copper : Mask) (w h : ℕ) (wide : w ≤ maxSide) (tall : h ≤ maxSid
           | yes q ↦ ⊎-elim (λ r. inl (three-grows n (omega arith) _ (g .fine) .keeps _ _ r)) inr (some-settle n (omega arith) s fine before x q)
           | no q ↦ let e : n ≡ x = omega arith in
               subst (Settles (fromThree w corners y b o n (ascend (fromThree w corners y b o) n s))) e
-              (three-settles n (omega arith) _ (g .fine) (λ z a. g .keeps _ _ (before z a)))
+              (three-settles n (omega arith) _ (g .fine) (λ z a. g .keeps _ _ (before z a)) (ways (gap n i)))
         ]
 
     pub from-row-settles : (s : State) → Fine copper w h s → Before s → (x : ℕ) → x < w → Settles (fromRow w corners y b o s) x

@@ -25,6 +25,16 @@ mirrored w k i past on-row on =
     let e : w - 1 - (k + 1) + 1 ≡ w - 1 - k = omega arith in
     gap-left (w - 1 - (k + 1)) i (omega arith) ∙ ap (λ (z : ℕ). gap z i + 1) e
 
+-- where a pixel that is u columns from column i may cost K u, the side step towards that column is paid for
+pub record Paid (i : ℕ) (K : ℕ → ℕ) (x : ℕ) : Type 0 where
+  pub nearer : ℕ
+  pub one : gap x i ≡ nearer + 1
+  pub pays : K nearer + 12 ≤ K (gap x i)
+
+-- the pixel (x, y) is within its cost, or the side step is paid for
+abbrev pub Settled : (w y i : ℕ) (K : ℕ → ℕ) → State → (x : ℕ) → Type 0
+Settled w y i K s x = Within (s .map) (index w x y) (K (gap x i)) ⊎ Paid i K x
+
 module _ (copper : Mask) (w h : ℕ) (wide : w ≤ maxSide) (tall : h ≤ maxSide) (y : ℕ) where
   -- ---- along a path of columns c 0, c 1, .., each from the one before
 
@@ -105,30 +115,24 @@ module _ (copper : Mask) (w h : ℕ) (wide : w ≤ maxSide) (tall : h ≤ maxSid
     -- ---- a whole row, with the cost K u of a pixel that is u columns from column i
 
     module _ (i : ℕ) (on : i < w) (K : ℕ → ℕ) where
-      -- the side step towards column i is paid for
-      pub record Paid (x : ℕ) : Type 0 where
-        pub nearer : ℕ
-        pub one : gap x i ≡ nearer + 1
-        pub pays : K nearer + 12 ≤ K (gap x i)
+      abbrev RowSettled : State → Type 0
+      RowSettled s = (x : ℕ) → x < w → Settled w y i K s x
 
-      abbrev pub Settled : State → Type 0
-      Settled s = (x : ℕ) → x < w → Within (s .map) (index w x y) (K (gap x i)) ⊎ Paid x
-
-      -- then the neighbour may be at column z
-      towards : (x z : ℕ) → gap x i ≡ gap z i + 1 → Paid x → K (gap z i) + 12 ≤ K (gap x i)
+      -- a step that is paid for may be from column z
+      towards : (x z : ℕ) → gap x i ≡ gap z i + 1 → Paid i K x → K (gap z i) + 12 ≤ K (gap x i)
       towards x z e p = let n : p .nearer ≡ gap z i = omega (arith, p .one) in omega (arith, p .pays, ap K n)
 
-      first : (s : State) → Settled s → Within (s .map) (index w i y) (K (gap i i))
+      first : (s : State) → RowSettled s → Within (s .map) (index w i y) (K (gap i i))
       first s settled = ⊎-elim (λ g. g) (λ p. absurd (omega (arith, p .one, gap-self i))) (settled i on)
 
-      right-within : (s : State) → Fine copper w h s → Settled s → (x : ℕ) → i ≤ x → x < w → Within (rightward w y s .map) (index w x y) (K (gap x i))
+      right-within : (s : State) → Fine copper w h s → RowSettled s → (x : ℕ) → i ≤ x → x < w → Within (rightward w y s .map) (index w x y) (K (gap x i))
       unfolding rightward
       right-within s fine settled x l a =
           path-within (λ k. k) (negsuc 0) (omega arith) (λ k. K (gap k i)) s fine i (first s settled) (w - 1) to-right
           (λ k m n. ⊎-elim inl (λ p. inr (towards (k + 1) k (gap-right k i m) p)) (settled (k + 1) (omega arith)))
           x l (omega arith)
 
-      left-within : (s : State) → Fine copper w h s → Settled s → (x : ℕ) → x ≤ i → x < w → Within (leftward w y s .map) (index w x y) (K (gap x i))
+      left-within : (s : State) → Fine copper w h s → RowSettled s → (x : ℕ) → x ≤ i → x < w → Within (leftward w y s .map) (index w x y) (K (gap x i))
       left-within s fine settled x l a =
           let e : w - 1 - (w - 1 - i) ≡ i = omega arith in
           let f : w - 1 - (w - 1 - x) ≡ x = omega arith in
@@ -140,7 +144,7 @@ module _ (copper : Mask) (w h : ℕ) (wide : w ≤ maxSide) (tall : h ≤ maxSid
           (λ k m n. ⊎-elim inl (λ p. inr (towards (w - 1 - (k + 1)) (w - 1 - k) (mirrored w k i m n on) p)) (settled (w - 1 - (k + 1)) (omega arith)))
           (w - 1 - x) (omega arith) (omega arith)))
 
-      pub row-within : (s : State) → Fine copper w h s → Settled s → (x : ℕ) → x < w → Within (leftward w y (rightward w y s) .map) (index w x y) (K (gap x i))
+      pub row-within : (s : State) → Fine copper w h s → RowSettled s → (x : ℕ) → x < w → Within (leftward w y (rightward w y s) .map) (index w x y) (K (gap x i))
       row-within s fine settled x a =
           let r = rightward-grows s fine in
           elim (decLe i x) [

@@ -74,13 +74,13 @@ module _ (w h : ℕ) (wide : w ≤ maxSide) (tall : h ≤ maxSide) (sheet : List
     halfway = ascend (downRow w corners) h start
 
     half-grows : Grows copper w h start halfway
-    half-grows = pass-grows copper w h wide tall corners (λ k. k) (negsuc 0) (downwards copper w h wide tall corners) h (omega arith) start start-fine
+    half-grows = pass-grows copper w h wide tall corners (λ k. k) (negsuc 0) (downwards h) h (omega arith) start start-fine
 
     two-grows : Grows copper w h halfway (scanned w corners h sheet)
     unfolding scanned
     two-grows =
         rw (scan-two copper w h wide tall corners halfway)
-        (pass-grows copper w h wide tall corners (λ k. h - 1 - k) (pos 1) (upwards copper w h wide tall corners) h (omega arith) halfway (half-grows .fine))
+        (pass-grows copper w h wide tall corners (λ k. h - 1 - k) (pos 1) (upwards h) h (omega arith) halfway (half-grows .fine))
 
     all-grows : Grows copper w h start (scanned w corners h sheet)
     all-grows = onward copper w h half-grows two-grows
@@ -97,7 +97,7 @@ module _ (w h : ℕ) (wide : w ≤ maxSide) (tall : h ≤ maxSide) (sheet : List
       one l =
           let e : y - j ≡ gap y j = omega (arith, gap-up j y l, gap-swap y j) in
           subst (At halfway y) e
-          (pass-within copper w h wide tall corners (λ k. k) (negsuc 0) (downwards copper w h wide tall corners) i (c .across) j (cost corners) (way corners)
+          (pass-within copper w h wide tall corners (λ k. k) (negsuc 0) (downwards h) i (c .across) j (cost corners) (way corners)
           start start-fine metal h (omega arith) y l down x across)
 
       two : y ≤ j → At (scanned w corners h sheet) y (gap y j)
@@ -107,8 +107,8 @@ module _ (w h : ℕ) (wide : w ≤ maxSide) (tall : h ≤ maxSide) (sheet : List
           let f : h - 1 - (h - 1 - y) ≡ y = omega arith in
           let g : h - 1 - y - (h - 1 - j) ≡ gap y j = omega (arith, c .down, gap-up y j l) in
           rw (scan-two copper w h wide tall corners halfway)
-          (subst₂ (At (ascend (rowAt copper w h wide tall corners (λ k. h - 1 - k) (pos 1) (upwards copper w h wide tall corners)) h halfway)) f g
-          (pass-within copper w h wide tall corners (λ k. h - 1 - k) (pos 1) (upwards copper w h wide tall corners) i (c .across) (h - 1 - j) (cost corners) (way corners)
+          (subst₂ (At (ascend (rowAt copper w h wide tall corners (λ k. h - 1 - k) (pos 1) (upwards h)) h halfway)) f g
+          (pass-within copper w h wide tall corners (λ k. h - 1 - k) (pos 1) (upwards h) i (c .across) (h - 1 - j) (cost corners) (way corners)
           halfway (half-grows .fine) (rw e (half-grows .keeps _ _ metal)) h (omega arith) (h - 1 - y) (omega arith) (omega arith) x across))
 
       costs : At (scanned w corners h sheet) y (gap y j)
