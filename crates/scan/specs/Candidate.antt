@@ -13,7 +13,7 @@ module _ (nx ny ox oy : ℤ) where
   abbrev pub allowed : Bool
   allowed = inRange (nx +ℤ ox) && inRange (ny +ℤ oy)
 
-  -- an unlabelled neighbour gives none
+  -- a candidate that may be taken: of a labelled neighbour (an unlabelled one gives none), and within ±2,047
   abbrev pub gives : Bool
   gives = not (unlabelled nx ny) && allowed
 

@@ -65,12 +65,14 @@ module _ (w : ℕ) where
   -- ---- the scans: every row is swept, also the first, which has no row before it
 
   module _ (corners : Bool) where
+    -- from the row above or below, if there is one
     abbrev pub fromAbove : (y : ℕ) → State → State
     fromAbove y s = cond (ltb 0 y) (fromRow corners y (y - 1) (negsuc 0) s) s
 
     abbrev pub fromBelow : (h y : ℕ) → State → State
     fromBelow h y s = cond (ltb (y + 1) h) (fromRow corners y (y + 1) (pos 1) s) s
 
+    -- a row of scan one, and one of scan two
     abbrev pub downRow : (y : ℕ) → State → State
     downRow y s = leftward y (rightward y (fromAbove y s))
 

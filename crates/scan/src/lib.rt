@@ -193,7 +193,7 @@ fn ahead(map: &[i16], p: usize, o: i32) -> Held
     }
 }
 
-// That of a pixel which is not there, as of an unlabelled one.
+// What `ahead` gives of a pixel that is not there: the vector of an unlabelled one, with the step (0, o).
 fn nothing(o: i32) -> Held
     requires { ⌜ Step o ⌝ }
     ensures { λ r. ⌜ Stepped o r × (unlabelled (r .dx) (r .dy -ℤ o) ≡ true) ⌝ }
