@@ -1,3 +1,4 @@
+-- `Format`, `Text` and `Run` are document 01's; `Obey` is what the functions below `run` promise each other.
 pub mod Format
 pub mod FormatLaws
 pub mod Text
