@@ -33,6 +33,10 @@ upto-drop n l e = elim (decLe n (length l)) [
   | no h ↦ let b : length l ≤ n = omega arith in rw (e, lt-leb n (length l) (omega arith), drop-of-length-le l b, drop-length)
 ]
 
+-- a part of n elements is as long
+pub part-length : {A : Type 0} (n : ℕ) (l : List A) → n ≤ length l → n ≡ length (take n l)
+part-length n l h = sym (length-take-le n l h)
+
 -- a part of n elements came back as p
 module _ {A : Type 0} (n : ℕ) (l p : List A) (same : length p ≡ length (take n l)) where
   pub part-lent : take n (p ++ drop n l) ≡ p

@@ -1,26 +1,10 @@
 -- `job::obey_build` meets its contract: the session builds in the lent parts, which come back in their places.
 -- Assumes nothing.
-use mathlib.Core.Path.{sym}
 use Prim.Native.Nat.{_*_}
 use borrow.Author.Needs.{needs}
-use lib.Seq.{length-take-le}
-use Rattle.job.specs.ObeyLaws.{upto-take, upto-drop, upto-lent, upto-behind}
+use Rattle.job.specs.ObeyLaws.{part-length, upto-take, upto-drop, upto-lent, upto-behind}
 use Rattle.job.proofs.obey_build.Statement.{statement}
 use Rattle.job.proofs.obey_build.Tie as tie
-
-slice-aggregate-build : tie.Need-slice-aggregate-build
-slice-aggregate-build c =
-    let t = c .before .before .before .before .before .before in sym (length-take-le (t .args .n) (t .args .sheet .now) (t .pre .1))
-
-slice-aggregate-build-2 : tie.Need-slice-aggregate-build-2
-slice-aggregate-build-2 c =
-    let m = c .before .before .before in
-    sym (length-take-le (m .first-pairs .result) (m .before .before .before .before .args .map .now) (m .first-pairs .ensures .1))
-
-slice-aggregate-build-3 : tie.Need-slice-aggregate-build-3
-slice-aggregate-build-3 c =
-    let f = c .before .before .before in
-    sym (length-take-le (f .first .result) (f .before .before .before .before .before .args .scratch .now) (f .first .ensures .1))
 
 returns : tie.Need-returns
 returns c =
@@ -54,11 +38,11 @@ obey-build-spec =
     (λ c κs. search needs)
     (λ c κs. search needs)
     (λ c κs. search needs)
-    slice-aggregate-build
+    (λ c. search (needs, part-length))
     (λ c. search needs)
-    slice-aggregate-build-2
+    (λ c. search (needs, part-length))
     (λ c. search needs)
-    slice-aggregate-build-3
+    (λ c. search (needs, part-length))
     (λ c κs. search needs)
     (λ c. search needs)
     (λ c. search needs)

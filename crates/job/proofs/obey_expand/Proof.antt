@@ -1,26 +1,10 @@
 -- `job::obey_expand` meets its contract: the session expands in the lent parts, which come back in their places.
 -- Assumes nothing.
-use mathlib.Core.Path.{sym}
 use Prim.Native.Nat.{_*_}
 use borrow.Author.Needs.{needs}
-use lib.Seq.{length-take-le}
-use Rattle.job.specs.ObeyLaws.{part-lent, part-behind, upto-take, upto-drop, upto-lent, upto-behind}
+use Rattle.job.specs.ObeyLaws.{part-length, part-lent, part-behind, upto-take, upto-drop, upto-lent, upto-behind}
 use Rattle.job.proofs.obey_expand.Statement.{statement}
 use Rattle.job.proofs.obey_expand.Tie as tie
-
-slice-aggregate-expand : tie.Need-slice-aggregate-expand
-slice-aggregate-expand c =
-    let t = c .before .before .before .before .before .before in sym (length-take-le (t .args .n) (t .args .sheet .now) (t .pre .1))
-
-slice-aggregate-expand-2 : tie.Need-slice-aggregate-expand-2
-slice-aggregate-expand-2 c =
-    let m = c .before .before .before in
-    sym (length-take-le (m .first-pairs .result) (m .before .before .before .before .args .map .now) (m .first-pairs .ensures .1))
-
-slice-aggregate-expand-3 : tie.Need-slice-aggregate-expand-3
-slice-aggregate-expand-3 c =
-    let f = c .before .before .before in
-    sym (length-take-le (f .first .result) (f .before .before .before .before .before .args .scratch .now) (f .first .ensures .1))
 
 returns : tie.Need-returns
 returns c =
@@ -54,11 +38,11 @@ obey-expand-spec =
     (λ c κs. search needs)
     (λ c κs. search needs)
     (λ c. search needs)
-    slice-aggregate-expand
+    (λ c. search (needs, part-length))
     (λ c. search needs)
-    slice-aggregate-expand-2
+    (λ c. search (needs, part-length))
     (λ c. search needs)
-    slice-aggregate-expand-3
+    (λ c. search (needs, part-length))
     (λ c κs. search needs)
     (λ c. search needs)
     (λ c. search needs)

@@ -9,15 +9,10 @@ use lib.Seq.{length-take-le, length-front}
 use borrow.Author.Needs.{needs}
 use borrow.Author.Tests.{ne-eqb}
 use Rattle.job.specs.Obey.{upto}
-use Rattle.job.specs.ObeyLaws.{part-lent, part-behind, upto-take}
+use Rattle.job.specs.ObeyLaws.{part-length, part-lent, part-behind, upto-take}
 use Rattle.session.proofs.Granted.{open-granted}
 use Rattle.job.proofs.obey_open.Statement.{statement}
 use Rattle.job.proofs.obey_open.Tie as tie
-
-slice-aggregate-open-sheet : tie.Need-slice-aggregate-open-sheet
-slice-aggregate-open-sheet c =
-    let f = c .before in
-    sym (length-take-le (f .first .result) (f .before .before .before .before .before .before .args .sheet .now) (f .first .ensures .1))
 
 returns : tie.Need-returns
 returns c =
@@ -79,7 +74,7 @@ obey-open-spec =
     (λ c κs. search needs)
     (λ c κs. search needs)
     (λ c. search needs)
-    slice-aggregate-open-sheet
+    (λ c. search (needs, part-length))
     (λ c κs. search needs)
     (λ c. search needs)
     returns

@@ -1,15 +1,9 @@
 -- `job::obey_paint` meets its contract: the session paints in the lent part, which comes back in its place.
 -- Assumes nothing.
-use mathlib.Core.Path.{sym}
 use borrow.Author.Needs.{needs}
-use lib.Seq.{length-take-le}
-use Rattle.job.specs.ObeyLaws.{part-lent, part-behind}
+use Rattle.job.specs.ObeyLaws.{part-length, part-lent, part-behind}
 use Rattle.job.proofs.obey_paint.Statement.{statement}
 use Rattle.job.proofs.obey_paint.Tie as tie
-
-slice-aggregate-paint : tie.Need-slice-aggregate-paint
-slice-aggregate-paint c =
-    let t = c .before .before .before .before .before .before .before in sym (length-take-le (t .args .n) (t .args .sheet .now) (t .pre .1))
 
 returns : tie.Need-returns
 returns c =
@@ -44,7 +38,7 @@ obey-paint-spec =
     (λ c κs. search needs)
     (λ c κs. search needs)
     (λ c. search needs)
-    slice-aggregate-paint
+    (λ c. search (needs, part-length))
     (λ c κs. search needs)
     (λ c. search needs)
     returns)

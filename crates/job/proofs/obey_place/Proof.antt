@@ -1,16 +1,10 @@
 -- `job::obey_place` meets its contract: the session places by the lent part of the map.
 -- Assumes nothing.
-use mathlib.Core.Path.{sym}
 use Prim.Native.Nat.{_*_}
 use borrow.Author.Needs.{needs}
-use lib.Seq.{length-take-le}
-use Rattle.job.specs.ObeyLaws.{upto-take}
+use Rattle.job.specs.ObeyLaws.{part-length, upto-take}
 use Rattle.job.proofs.obey_place.Statement.{statement}
 use Rattle.job.proofs.obey_place.Tie as tie
-
-slice-aggregate-place : tie.Need-slice-aggregate-place
-slice-aggregate-place c =
-    let m = c .before in sym (length-take-le (m .first-pairs .result) (m .before .before .before .before .before .args .map .now) (m .first-pairs .ensures .1))
 
 returns : tie.Need-returns
 returns c =
@@ -30,6 +24,6 @@ obey-place-spec =
     (λ c κs. search needs)
     (λ c κs. search needs)
     (λ c κs. search needs)
-    slice-aggregate-place
+    (λ c. search (needs, part-length))
     (λ c κs. search needs)
     returns)

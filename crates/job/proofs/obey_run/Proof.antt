@@ -1,16 +1,10 @@
 -- `job::obey_run` meets its contract: the session runs by the lent part of the map.
 -- Assumes nothing.
-use mathlib.Core.Path.{sym}
 use Prim.Native.Nat.{_*_}
 use borrow.Author.Needs.{needs}
-use lib.Seq.{length-take-le}
-use Rattle.job.specs.ObeyLaws.{upto-take}
+use Rattle.job.specs.ObeyLaws.{part-length, upto-take}
 use Rattle.job.proofs.obey_run.Statement.{statement}
 use Rattle.job.proofs.obey_run.Tie as tie
-
-slice-aggregate-run : tie.Need-slice-aggregate-run
-slice-aggregate-run c =
-    let m = c .before in sym (length-take-le (m .first-pairs .result) (m .before .before .before .before .args .map .now) (m .first-pairs .ensures .1))
 
 returns : tie.Need-returns
 returns c =
@@ -27,6 +21,6 @@ obey-run-spec =
     (λ c κs. search needs)
     (λ c κs. search needs)
     (λ c κs. search needs)
-    slice-aggregate-run
+    (λ c. search (needs, part-length))
     (λ c κs. search needs)
     returns)
