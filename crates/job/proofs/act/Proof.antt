@@ -1,12 +1,12 @@
 -- `job::act` meets its contract: the kind says which function obeys, and what that leaves is what the definition says.
 -- Assumes nothing.
 use mathlib.Core.Path.{_≡_, sym, _∙_}
-use Prim.Native.Nat.{_≤_}
+use Prim.Native.Nat.{ℕ, _+_, _≤_}
 use native.Mathlib.Nat.{le-antisymm}
 use native.Mathlib.Omega.{arith}
-use lib.ListN.{length-drop}
+use lib.ListN.{length, drop, length-drop}
 use borrow.Author.Needs.{needs}
-use Rattle.job.specs.Format.{sizeOf, orderHere}
+use Rattle.job.specs.Format.{word, sizeOf, orderHere}
 use Rattle.job.specs.ObeyLaws.{beyond, room, paint-obeyed, erase-obeyed, build-obeyed, expand-obeyed, shrink-obeyed}
 use Rattle.job.proofs.act.Statement.{statement}
 use Rattle.job.proofs.act.Tie as tie
@@ -15,30 +15,22 @@ word-at-requires : tie.Need-word-at-requires
 word-at-requires c κs =
     let t = c .before .before in omega (arith, length-drop (t .args .at) (t .args .job .now), t .pre .0 .header)
 
-obey-paint-requires : tie.Need-obey-paint-requires
-unfolding sizeOf
-obey-paint-requires c κs =
-    let i = c .before in
-    let w = i .before in
-    let t = w .before .before .before in
-    (room (t .args .job .now) (t .args .at) 2 (t .pre .0) (w .word-at .ensures) (i .if1 .taken), t .pre .1 .1)
+-- the record has the bytes of its kind, and the sheet buffer what is lent of it
+fits : (c : tie.After-word-at) (j : ℕ) → c .word-at .result ≡ j → let t = c .before .before .before in
+    (t .args .at + sizeOf j ≤ length (t .args .job .now)) × (t .args .n ≤ length (t .args .sheet .now))
+fits c j e = let t = c .before .before .before in (room (t .args .job .now) (t .args .at) j (t .pre .0) (c .word-at .ensures) e, t .pre .1 .1)
+
+-- its kind
+kind : (c : tie.After-word-at) {j : ℕ} → c .word-at .result ≡ j → let a = c .before .before .before .args in word (drop (a .at) (a .job .now)) 2 ≡ j
+kind c e = sym (c .word-at .ensures) ∙ e
 
 returns : tie.Need-returns
 unfolding orderHere
 returns c =
     let p = c .before .before in
     let i = p .before .before in
-    let w = i .before in
-    let t = w .before .before .before in
-    rw (sym (w .word-at .ensures) ∙ i .if1 .taken) (paint-obeyed (t .args .map .now) (t .args .scratch .now) (p .obey-paint .ensures))
-
-obey-erase-requires : tie.Need-obey-erase-requires
-unfolding sizeOf
-obey-erase-requires c κs =
-    let i = c .before in
-    let w = i .before .before in
-    let t = w .before .before .before in
-    (room (t .args .job .now) (t .args .at) 3 (t .pre .0) (w .word-at .ensures) (i .if2 .taken), t .pre .1 .1)
+    let a = i .before .before .before .before .args in
+    rw (kind (i .before) (i .if1 .taken)) (paint-obeyed (a .map .now) (a .scratch .now) (p .obey-paint .ensures))
 
 returns-2 : tie.Need-returns-2
 unfolding orderHere
@@ -46,16 +38,8 @@ returns-2 c =
     let p = c .before .before in
     let i = p .before .before in
     let w = i .before .before in
-    let t = w .before .before .before in
-    rw (sym (w .word-at .ensures) ∙ i .if2 .taken) (erase-obeyed (t .args .map .now) (t .args .scratch .now) (p .obey-erase .ensures))
-
-obey-build-requires : tie.Need-obey-build-requires
-unfolding sizeOf
-obey-build-requires c κs =
-    let i = c .before .before .before in
-    let w = i .before .before .before in
-    let t = w .before .before .before in
-    (room (t .args .job .now) (t .args .at) 4 (t .pre .0) (w .word-at .ensures) (i .if3 .taken), t .pre .1 .1)
+    let a = w .before .before .before .args in
+    rw (kind w (i .if2 .taken)) (erase-obeyed (a .map .now) (a .scratch .now) (p .obey-erase .ensures))
 
 returns-3 : tie.Need-returns-3
 unfolding orderHere
@@ -63,62 +47,28 @@ returns-3 c =
     let p = c .before .before in
     let i = p .before .before .before .before in
     let w = i .before .before .before in
-    let t = w .before .before .before in
-    rw (sym (w .word-at .ensures) ∙ i .if3 .taken) (build-obeyed (t .pre .1 .1) (p .obey-build .ensures))
-
-obey-place-requires : tie.Need-obey-place-requires
-unfolding sizeOf
-obey-place-requires c κs =
-    let i = c .before in
-    let w = i .before .before .before .before in
-    let t = w .before .before .before in
-    room (t .args .job .now) (t .args .at) 5 (t .pre .0) (w .word-at .ensures) (i .if4 .taken)
+    rw (kind w (i .if3 .taken)) (build-obeyed (w .before .before .before .pre .1 .1) (p .obey-build .ensures))
 
 returns-4 : tie.Need-returns-4
 unfolding orderHere
 returns-4 c =
-    let p = c in
-    let i = p .before .before in
-    let w = i .before .before .before .before in
-    let t = w .before .before .before in
-    rw (sym (w .word-at .ensures) ∙ i .if4 .taken)
-    (record { answer = p .obey-place .ensures .0; left = rw (← p .obey-place .ensures .0, p .obey-place .ensures .1) })
-
-obey-run-requires : tie.Need-obey-run-requires
-unfolding sizeOf
-obey-run-requires c κs =
-    let i = c .before in
-    let w = i .before .before .before .before .before in
-    let t = w .before .before .before in
-    room (t .args .job .now) (t .args .at) 6 (t .pre .0) (w .word-at .ensures) (i .if5 .taken)
+    let i = c .before .before in
+    let r = c .obey-place .ensures in
+    rw (kind (i .before .before .before .before) (i .if4 .taken)) (record { answer = r .0; left = rw (← r .0, r .1) })
 
 returns-5 : tie.Need-returns-5
 unfolding orderHere
 returns-5 c =
-    let p = c in
-    let i = p .before .before in
-    let w = i .before .before .before .before .before in
-    let t = w .before .before .before in
-    rw (sym (w .word-at .ensures) ∙ i .if5 .taken)
-    (record { answer = p .obey-run .ensures .0; left = rw (← p .obey-run .ensures .0, p .obey-run .ensures .1) })
+    let i = c .before .before in
+    let r = c .obey-run .ensures in
+    rw (kind (i .before .before .before .before .before) (i .if5 .taken)) (record { answer = r .0; left = rw (← r .0, r .1) })
 
 returns-6 : tie.Need-returns-6
 unfolding orderHere
 returns-6 c =
-    let p = c in
-    let i = p .before in
-    let w = i .before .before .before .before .before .before in
-    let t = w .before .before .before in
-    rw (sym (w .word-at .ensures) ∙ i .if6 .taken)
-    (record { answer = p .lift .ensures .0; left = rw (p .lift .ensures .1) })
-
-obey-expand-requires : tie.Need-obey-expand-requires
-unfolding sizeOf
-obey-expand-requires c κs =
-    let i = c .before .before .before in
-    let w = i .before .before .before .before .before .before .before in
-    let t = w .before .before .before in
-    (room (t .args .job .now) (t .args .at) 8 (t .pre .0) (w .word-at .ensures) (i .if7 .taken), t .pre .1 .1)
+    let i = c .before in
+    let r = c .lift .ensures in
+    rw (kind (i .before .before .before .before .before .before) (i .if6 .taken)) (record { answer = r .0; left = rw (r .1) })
 
 returns-7 : tie.Need-returns-7
 unfolding orderHere
@@ -126,8 +76,7 @@ returns-7 c =
     let p = c .before .before .before .before in
     let i = p .before .before .before .before in
     let w = i .before .before .before .before .before .before .before in
-    let t = w .before .before .before in
-    rw (sym (w .word-at .ensures) ∙ i .if7 .taken) (expand-obeyed (t .pre .1 .1) (p .obey-expand .ensures))
+    rw (kind w (i .if7 .taken)) (expand-obeyed (w .before .before .before .pre .1 .1) (p .obey-expand .ensures))
 
 -- the kind that is left
 nine : (c : tie.Else7) → let w = c .before .before .before .before .before .before .before in w .word-at .result ≡ 9
@@ -140,53 +89,45 @@ nine c =
     let nine = beyond 8 (beyond 7 (beyond 6 (beyond 5 five (i .if4 .left)) (c .before .before .if5 .left)) (c .before .if6 .left)) (c .if7 .left) in
     le-antisymm (rw (w .word-at .ensures) (t .pre .0 .known .1)) nine
 
-obey-shrink-requires : tie.Need-obey-shrink-requires
-unfolding sizeOf
-obey-shrink-requires c κs =
-    let i = c .before .before .before in
-    let w = i .before .before .before .before .before .before .before in
-    let t = w .before .before .before in
-    (room (t .args .job .now) (t .args .at) 9 (t .pre .0) (w .word-at .ensures) (nine i), t .pre .1 .1)
-
 returns-8 : tie.Need-returns-8
 unfolding orderHere
 returns-8 c =
     let p = c .before .before .before .before in
     let i = p .before .before .before .before in
     let w = i .before .before .before .before .before .before .before in
-    let t = w .before .before .before in
-    rw (sym (w .word-at .ensures) ∙ nine i) (shrink-obeyed (t .pre .1 .1) (p .obey-shrink .ensures))
+    rw (kind w (nine i)) (shrink-obeyed (w .before .before .before .pre .1 .1) (p .obey-shrink .ensures))
 
 pub act-spec : {M : Type 1} → statement M
+unfolding sizeOf
 act-spec =
     tie.close
     (tie.spec
     word-at-requires
-    obey-paint-requires
+    (λ c κs. fits (c .before .before) 2 (c .before .if1 .taken))
     (λ c. search needs)
     returns
-    obey-erase-requires
+    (λ c κs. fits (c .before .before .before) 3 (c .before .if2 .taken))
     (λ c. search needs)
     returns-2
-    obey-build-requires
+    (λ c κs. let i = c .before .before .before in fits (i .before .before .before) 4 (i .if3 .taken))
     (λ c. search needs)
     (λ c. search needs)
     (λ c. search needs)
     returns-3
-    obey-place-requires
+    (λ c κs. fits (c .before .before .before .before .before) 5 (c .before .if4 .taken) .0)
     (λ c. search needs)
     returns-4
-    obey-run-requires
+    (λ c κs. fits (c .before .before .before .before .before .before) 6 (c .before .if5 .taken) .0)
     (λ c. search needs)
     returns-5
     (λ c κs. search needs)
     returns-6
-    obey-expand-requires
+    (λ c κs. let i = c .before .before .before in fits (i .before .before .before .before .before .before .before) 8 (i .if7 .taken))
     (λ c. search needs)
     (λ c. search needs)
     (λ c. search needs)
     returns-7
-    obey-shrink-requires
+    (λ c κs. let i = c .before .before .before in fits (i .before .before .before .before .before .before .before) 9 (nine i))
     (λ c. search needs)
     (λ c. search needs)
     (λ c. search needs)
