@@ -15,8 +15,7 @@ use Rattle.job.proofs.run_all.Tie as tie
 abbrev Inv-loop : tie.InvT-loop
 Inv-loop job sheet₀ map₀ scratch₀ out₀ s₀ n₀ at₀ i₀ end₀ sheet map scratch out s n at i end =
     Running job (startOf sheet₀ map₀ scratch₀) out₀ i at end (benchOf s n sheet map scratch) out
-    × ((n ≤ length sheet)
-    × ((length sheet ≡ length sheet₀) × ((length map ≡ length map₀) × ((length scratch ≡ length scratch₀) × (length out ≡ length out₀)))))
+    × (n ≤ length sheet) × (length sheet ≡ length sheet₀) × (length map ≡ length map₀) × (length scratch ≡ length scratch₀) × (length out ≡ length out₀)
 
 abbrev μ-loop : tie.MeasureT-loop
 μ-loop job sheet₀ map₀ scratch₀ out₀ s₀ n₀ at₀ i₀ end₀ sheet map scratch out s n at i end = length job - at
@@ -24,11 +23,11 @@ abbrev μ-loop : tie.MeasureT-loop
 loop-holds : tie.Need-loop-holds Inv-loop μ-loop
 loop-holds c =
     let t = c .before .before .before .before in
-    (rw (c .fresh .ensures) (running-start _ _ _ (t .pre .0)), (omega arith, (refl, (refl, (refl, refl)))))
+    (rw (c .fresh .ensures) (running-start _ _ _ (t .pre .0)), omega arith, refl, refl, refl, refl)
 
 obey-requires : tie.Need-obey-requires Inv-loop μ-loop
 obey-requires c κs =
-    let l = c .before .before .before .before in (running-here (l .loop .inv .0) (c .before .before .before .loop-test .taken), l .loop .inv .1 .0)
+    let l = c .before .before .before .before in (running-here (l .loop .inv .0) (c .before .before .before .loop-test .taken), l .loop .inv .1)
 
 -- the line of the record
 nine : (c : tie.After-obey Inv-loop μ-loop) → length (line (c .before .before .before .before .before .loop .i + 1) (c .obey .result .answer)) ≤ 9
@@ -54,7 +53,7 @@ put-line-requires c κs =
     let o = c .before .before .before .before .before in
     let l = o .before .before .before .before .before in
     let fits = l .before .before .before .before .before .pre .1 in
-    running-room (l .loop .inv .0) (o .before .before .before .before .loop-test .taken) (rw (l .loop .inv .1 .1 .1 .1 .1) fits) (nine o)
+    running-room (l .loop .inv .0) (o .before .before .before .before .loop-test .taken) (rw (l .loop .inv .5) fits) (nine o)
 
 loop-again : tie.Need-loop-again Inv-loop μ-loop
 loop-again c =
@@ -64,16 +63,11 @@ loop-again c =
     let l = o .before .before .before .before .before in
     let more = o .before .before .before .before .loop-test .taken in (
       running-turn (l .loop .inv .0) more (z .size-at .ensures) (o .obey .ensures .0) (p .put-line .ensures) (nine o),
-      (
-        o .obey .ensures .1,
-        (
-          o .obey .kept .1 .1 .1 .1 .0 ∙ l .loop .inv .1 .1 .0,
-          (
-            o .obey .kept .1 .1 .1 .1 .1 .0 ∙ l .loop .inv .1 .1 .1 .0,
-            (o .obey .kept .1 .1 .1 .1 .1 .1 .0 ∙ l .loop .inv .1 .1 .1 .1 .0, p .put-line .kept .0 ∙ l .loop .inv .1 .1 .1 .1 .1),
-          ),
-        ),
-      ),
+      o .obey .ensures .1,
+      o .obey .kept .1 .1 .1 .1 .0 ∙ l .loop .inv .2,
+      o .obey .kept .1 .1 .1 .1 .1 .0 ∙ l .loop .inv .3,
+      o .obey .kept .1 .1 .1 .1 .1 .1 .0 ∙ l .loop .inv .4,
+      p .put-line .kept .0 ∙ l .loop .inv .5,
     )
 
 returns : tie.Need-returns Inv-loop μ-loop
@@ -81,7 +75,7 @@ returns c =
     let l = c .before in
     let t = l .before .before .before .before .before in
     let r = l .loop .inv .0 in (
-      running-end r (c .loop-test .left) (rw (l .loop .inv .1 .1 .1 .1 .1) (t .pre .1)),
+      running-end r (c .loop-test .left) (rw (l .loop .inv .5) (t .pre .1)),
       buffers (l .loop .s) (l .loop .n) (l .loop .sheet) (l .loop .map) (l .loop .scratch) (running-left r (c .loop-test .left)),
     )
 

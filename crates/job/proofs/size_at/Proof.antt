@@ -1,6 +1,10 @@
 -- `job::size_at` meets its contract: the tests are the definition's, on the part of the bytes that starts there.
 -- Assumes nothing.
+use mathlib.Core.Path.{_≡_}
+use mathlib.Core.Bool.{cond, _&&_}
+use Prim.Native.Nat.{_-_}
 use native.Mathlib.Omega.{arith}
+use lib.Dec.{eqb, leb}
 use lib.ListN.{length, drop, length-drop}
 use borrow.Author.Needs.{needs}
 use borrow.Author.Tests.{le-leb, lt-leb}
@@ -14,34 +18,20 @@ returns c =
     let a = c .before .before .args in
     rw (lt-leb 4 (length (drop (a .at) (a .job .now))) (omega (arith, length-drop (a .at) (a .job .now))))
 
-returns-2 : tie.Need-returns-2
+-- where four bytes are left
+is : (c : tie.After-size-of) → let w = c .before .before in let a = w .before .before .before .args in
+    sizeHere (drop (a .at) (a .job .now))
+    ≡ cond (eqb (w .word-at .result) (c .size-of .result) && leb (w .word-at .result) (length (a .job .now) - a .at)) (w .word-at .result) 0
 unfolding sizeHere
-returns-2 c =
-    let t = c .before in
-    let w = t .before .before in
+is c =
+    let w = c .before .before in
     let a = w .before .before .before .args in
     rw (
       le-leb 4 (length (drop (a .at) (a .job .now))) (omega (arith, length-drop (a .at) (a .job .now))),
       ← w .word-at .ensures,
-      ← t .before .word-at2 .ensures,
-      ← t .size-of .ensures,
+      ← c .before .word-at2 .ensures,
+      ← c .size-of .ensures,
       length-drop (a .at) (a .job .now),
-      c .if2 .taken,
-    )
-
-returns-3 : tie.Need-returns-3
-unfolding sizeHere
-returns-3 c =
-    let t = c .before in
-    let w = t .before .before in
-    let a = w .before .before .before .args in
-    rw (
-      le-leb 4 (length (drop (a .at) (a .job .now))) (omega (arith, length-drop (a .at) (a .job .now))),
-      ← w .word-at .ensures,
-      ← t .before .word-at2 .ensures,
-      ← t .size-of .ensures,
-      length-drop (a .at) (a .job .now),
-      c .if2 .left,
     )
 
 pub size-at-spec : {M : Type 1} → statement M
@@ -54,5 +44,5 @@ size-at-spec =
     (λ c. search needs)
     (λ c κs. search needs)
     (λ c κs. search needs)
-    returns-2
-    returns-3)
+    (λ c. rw (is (c .before), c .if2 .taken))
+    (λ c. rw (is (c .before), c .if2 .left)))
