@@ -14,14 +14,11 @@ unfolding seeds
 seeds-length [] = refl
 seeds-length (b ∷ s) = let e = seeds-length s in omega arith
 
-pub seeds-dx : (s : List ℕ) (p : ℕ) → p < length s → dxAt (seeds s) p ≡ seed (getD s p 0)
+pub seeds-at : (s : List ℕ) (p : ℕ) → p < length s → (dxAt (seeds s) p ≡ seed (getD s p 0)) × (dyAt (seeds s) p ≡ seed (getD s p 0))
 unfolding seeds
-seeds-dx [] p l = absurd (not-suc-le-zero l)
-seeds-dx (b ∷ s) zero l = refl
-seeds-dx (b ∷ s) (suc p) l = let e : 2 * suc p ≡ suc (suc (2 * p)) = omega arith in rw e (seeds-dx s p (le-of-suc-le-suc l))
-
-pub seeds-dy : (s : List ℕ) (p : ℕ) → p < length s → dyAt (seeds s) p ≡ seed (getD s p 0)
-unfolding seeds
-seeds-dy [] p l = absurd (not-suc-le-zero l)
-seeds-dy (b ∷ s) zero l = refl
-seeds-dy (b ∷ s) (suc p) l = let e : 2 * suc p + 1 ≡ suc (suc (2 * p + 1)) = omega arith in rw e (seeds-dy s p (le-of-suc-le-suc l))
+seeds-at [] p l = absurd (not-suc-le-zero l)
+seeds-at (b ∷ s) zero l = (refl, refl)
+seeds-at (b ∷ s) (suc p) l =
+    let e : 2 * suc p ≡ suc (suc (2 * p)) = omega arith in
+    let f : suc (suc (2 * p)) + 1 ≡ suc (suc (2 * p + 1)) = omega arith in
+    rw (e, f) (seeds-at s p (le-of-suc-le-suc l))

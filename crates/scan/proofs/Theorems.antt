@@ -28,7 +28,7 @@ use Rattle.raster.specs.Gate.{passes, NearBy}
 use Rattle.raster.specs.GateLaws.{passed-above, failed-near}
 use Rattle.raster.specs.Loop.{ascend}
 use Rattle.scan.specs.Scan.{State, state, seed, seeds, downRow, scanned, gate}
-use Rattle.scan.proofs.Seeds.{seeds-length, seeds-dx, seeds-dy}
+use Rattle.scan.proofs.Seeds.{seeds-length, seeds-at}
 use Rattle.scan.proofs.Within.{Within}
 use Rattle.scan.proofs.Cost.{cost, way, fraction}
 use Rattle.scan.proofs.Progress.{Fine, Grows, onward}
@@ -44,16 +44,13 @@ module _ (w h : ℕ) (wide : w ≤ maxSide) (tall : h ≤ maxSide) (sheet : List
   -- ---- the start
 
   module _ (x y : ℕ) (across : x < w) (down : y < h) where
-    start-dx : dxAt (seeds sheet) (index w x y) ≡ seed (getD sheet (index w x y) 0)
-    start-dx = seeds-dx sheet (index w x y) (omega (arith, index-inside w x y across h down))
-
-    start-dy : dyAt (seeds sheet) (index w x y) ≡ seed (getD sheet (index w x y) 0)
-    start-dy = seeds-dy sheet (index w x y) (omega (arith, index-inside w x y across h down))
+    starts : (dxAt (seeds sheet) (index w x y) ≡ seed (getD sheet (index w x y) 0)) × (dyAt (seeds sheet) (index w x y) ≡ seed (getD sheet (index w x y) 0))
+    starts = seeds-at sheet (index w x y) (omega (arith, index-inside w x y across h down))
 
     start-target : unlabelledAt (seeds sheet) (index w x y) ≡ false
         → Target copper w h x y (dxAt (seeds sheet) (index w x y)) (dyAt (seeds sheet) (index w x y))
     unfolding copperOf
-    start-target u = rw (start-dx, start-dy) (go (eqb (getD sheet (index w x y) 0) 0) refl (rw (start-dx, start-dy) at u))
+    start-target u = rw (starts .0, starts .1) (go (eqb (getD sheet (index w x y) 0) 0) refl (rw (starts .0, starts .1) at u))
       where
         go : (t : Bool) → eqb (getD sheet (index w x y) 0) 0 ≡ t → unlabelled (cond t mark (pos 0)) (cond t mark (pos 0)) ≡ false
             → Target copper w h x y (cond t mark (pos 0)) (cond t mark (pos 0))
@@ -62,7 +59,7 @@ module _ (w h : ℕ) (wide : w ≤ maxSide) (tall : h ≤ maxSide) (sheet : List
 
     start-within : copper x y ≡ true → Within (seeds sheet) (index w x y) 0
     unfolding copperOf size
-    start-within c = let e = not-true (eqb (getD sheet (index w x y) 0) 0) c in rw (start-dx, start-dy, e) (record { labelled = refl; near = omega arith })
+    start-within c = let e = not-true (eqb (getD sheet (index w x y) 0) 0) c in rw (starts .0, starts .1, e) (record { labelled = refl; near = omega arith })
 
   start-fine : Fine copper w h start
   start-fine = record { sound = record { long = seeds-length sheet ∙ ap (λ (n : ℕ). 2 * n) whole; target = start-target }; quiet = refl }
