@@ -41,24 +41,16 @@ small s =
 dx-fits : (s : tie.Start) → SFits w32 (s .args .c .dx)
 dx-fits s = wide-fits (s .args .c .dx) (omega (arith, near-dx s))
 
-growth-requires : tie.Need-growth-requires
-growth-requires c κs =
-    let s = c .before in
-    simp (toZ-ofZ, dx-fits s, s .fits .o) (near-dx s, s .pre .1 .0)
-
 -- what the step adds
 added : (c : tie.After-growth) → let a = c .before .before .args in c .growth .result + square (a .c .dx) ≡ 4096 + square (a .c .dx +ℤ a .o)
 added c = simp (toZ-ofZ, dx-fits (c .before .before), c .before .before .fits .o) at (c .growth .ensures .0)
 
-add-result : tie.Need-add-result
-add-result c = omega (arith, small (c .before .before .before), c .before .growth .ensures .1)
-
-sub-result : tie.Need-sub-result
-sub-result c = omega (arith, own (c .before .before .before), added (c .before))
-
-returns : tie.Need-returns
-unfolding size
-returns c = omega (arith, own (c .before .before .before), added (c .before))
-
 pub size-after-spec : {M : Type 1} → statement M
-size-after-spec = tie.close (tie.spec growth-requires add-result sub-result returns)
+unfolding size
+size-after-spec =
+    tie.close
+    (tie.spec
+    (λ c κs. let s = c .before in simp (toZ-ofZ, dx-fits s, s .fits .o) (near-dx s, s .pre .1 .0))
+    (λ c. omega (arith, small (c .before .before .before), c .before .growth .ensures .1))
+    (λ c. omega (arith, own (c .before .before .before), added (c .before)))
+    (λ c. omega (arith, own (c .before .before .before), added (c .before))))
