@@ -1,15 +1,16 @@
 -- The bytes of a job file that splits are those of its records, written one after the other.
 -- Assumes nothing.
 use mathlib.Core.Path.{_≡_, refl, sym, ap, ap₂, _∙_}
-use mathlib.Core.Bool.{Bool, true, false, cond, false≢true}
+use mathlib.Core.Bool.{true, false≢true}
 use mathlib.Core.List.{List, [], _∷_, _++_}
 use Prim.Native.Nat.{ℕ, zero, suc, _+_, _*_, _/_, _%_, _<_, _≤_}
+use native.Mathlib.Decide.{ℕ-discrete}
 use native.Mathlib.Omega.{arith}
 use native.Mathlib.Numerals.{add-one}
-use lib.Dec.{eqb, leb}
+use lib.Dec.{leb}
 use lib.ListN.{length, getD, take, drop, take-append-drop}
 use lib.Seq.{drop-cons, drop-drop, getD-drop, take-add}
-use borrow.Author.Tests.{eqb-true, eqb-false}
+use borrow.Author.Tests.{eqb-true, ne-eqb}
 use Rattle.raster.specs.PixelsLaws.{nothing}
 use Rattle.raster.specs.Tests.{and-right}
 use Rattle.job.specs.Format.{word, sizeOf, sizeHere, orderHere, splits, ordersIn, isJob, ordersOf, wordBytes, encode, encodeAll}
@@ -75,18 +76,17 @@ front b bytes some =
 written-again : (n : ℕ) (b : List ℕ) → Bytes b → splits n b ≡ true → encodeAll (ordersIn n b) ≡ b
 unfolding splits ordersIn encodeAll
 written-again zero b bytes e = nothing b (eqb-true (length b) 0 e)
-written-again (suc n) b bytes e =
-    go (eqb (length b) 0) (eqb (sizeHere b) 0) refl refl e
-    (written-again n (drop (sizeHere b) b) (λ i. rw (getD-drop (sizeHere b) b i 0) (bytes (sizeHere b + i))))
-  where
-    go : (t u : Bool) → eqb (length b) 0 ≡ t → eqb (sizeHere b) 0 ≡ u
-        → cond t true (cond u false (splits n (drop (sizeHere b) b))) ≡ true
-        → (splits n (drop (sizeHere b) b) ≡ true → encodeAll (ordersIn n (drop (sizeHere b) b)) ≡ drop (sizeHere b) b)
-        → encodeAll (cond t [] (orderHere b ∷ ordersIn n (drop (sizeHere b) b))) ≡ b
-    go true u p q f rest = nothing b (eqb-true (length b) 0 p)
-    go false true p q f rest = absurd (false≢true f)
-    go false false p q f rest =
-        ap₂ (λ (x y : List ℕ). x ++ y) (front b bytes (eqb-false (sizeHere b) 0 q)) (rest f) ∙ take-append-drop (sizeHere b) b
+written-again (suc n) b bytes e = elim (ℕ-discrete (length b) 0) [
+  | yes z ↦ rw z (nothing b z)
+  | no some ↦
+      let f = ne-eqb (length b) 0 some in
+      elim (ℕ-discrete (sizeHere b) 0) [
+        | yes z ↦ absurd (false≢true (rw (f, z) at e))
+        | no whole ↦
+            let rest = written-again n (drop (sizeHere b) b) (λ i. rw (getD-drop (sizeHere b) b i 0) (bytes (sizeHere b + i))) (rw (f, ne-eqb (sizeHere b) 0 whole) at e) in
+            rw f (ap₂ (λ (x y : List ℕ). x ++ y) (front b bytes whole) rest ∙ take-append-drop (sizeHere b) b)
+      ]
+]
 
 -- the theorem: a job file that splits is its records, written one after the other
 pub decoded : (job : List ℕ) → Bytes job → isJob job ≡ true → encodeAll (ordersOf job) ≡ job

@@ -1,6 +1,6 @@
 -- Laws of the job file's bytes.
 -- Assumes nothing.
-use mathlib.Core.Path.{_≡_, refl, ap, ap₂}
+use mathlib.Core.Path.{_≡_, refl, sym, ap, ap₂, _∙_}
 use mathlib.Core.Bool.{true, false, _&&_}
 use mathlib.Core.List.{List, [], _∷_, _++_}
 use Prim.Native.Nat.{ℕ, zero, suc, _+_, _-_, _*_, _/_, _%_, _<_, _≤_}
@@ -116,18 +116,26 @@ unfolding sizeHere
 size-is bytes four same fits =
     rw (le-leb 4 (length bytes) four, eq-eqb (word bytes 0) (sizeOf (word bytes 2)) same, le-leb (word bytes 0) (length bytes) fits)
 
+-- a written record says its length, which is its kind's, and has its first four bytes
+header : (o : Order) (rest : List ℕ)
+    → (word (encode o ++ rest) 0 ≡ length (encode o)) × (sizeOf (word (encode o ++ rest) 2) ≡ length (encode o)) × (4 ≤ length (encode o))
+unfolding encode sizeOf
+header (opening w h) rest = (refl, refl, omega arith)
+header (paint x y c r) rest = (refl, refl, omega arith)
+header (erase x y c r) rest = (refl, refl, omega arith)
+header (build e) rest = (refl, refl, omega arith)
+header (place x y q) rest = (refl, refl, omega arith)
+header (run d n) rest = (refl, refl, omega arith)
+header lift rest = (refl, refl, omega arith)
+header (expand q) rest = (refl, refl, omega arith)
+header (shrink q) rest = (refl, refl, omega arith)
+
 -- the record at the front of bytes that start with a written record is that one
 size-written : (o : Order) (rest : List ℕ) → sizeHere (encode o ++ rest) ≡ length (encode o)
-unfolding encode sizeOf
-size-written (opening w h) rest = size-is (encode (opening w h) ++ rest) (omega arith) refl (omega arith)
-size-written (paint x y c r) rest = size-is (encode (paint x y c r) ++ rest) (omega arith) refl (omega arith)
-size-written (erase x y c r) rest = size-is (encode (erase x y c r) ++ rest) (omega arith) refl (omega arith)
-size-written (build e) rest = size-is (encode (build e) ++ rest) (omega arith) refl (omega arith)
-size-written (place x y q) rest = size-is (encode (place x y q) ++ rest) (omega arith) refl (omega arith)
-size-written (run d n) rest = size-is (encode (run d n) ++ rest) (omega arith) refl (omega arith)
-size-written lift rest = size-is (encode lift ++ rest) (omega arith) refl (omega arith)
-size-written (expand q) rest = size-is (encode (expand q) ++ rest) (omega arith) refl (omega arith)
-size-written (shrink q) rest = size-is (encode (shrink q) ++ rest) (omega arith) refl (omega arith)
+size-written o rest =
+    let h = header o rest in
+    let n = length-append (encode o) rest in
+    size-is (encode o ++ rest) (omega (arith, n, h .2)) (h .0 ∙ sym (h .1)) (omega (arith, n, h .0)) ∙ h .0
 
 order-written : (o : Order) (rest : List ℕ) → orderHere (encode o ++ rest) ≡ o
 unfolding encode orderHere
@@ -141,23 +149,10 @@ order-written lift rest = refl
 order-written (expand q) rest = simp (halves, whole)
 order-written (shrink q) rest = simp (halves, whole)
 
--- no written record is shorter than four bytes
-four-bytes : (o : Order) → 4 ≤ length (encode o)
-unfolding encode
-four-bytes (opening w h) = omega arith
-four-bytes (paint x y c r) = omega arith
-four-bytes (erase x y c r) = omega arith
-four-bytes (build e) = omega arith
-four-bytes (place x y q) = omega arith
-four-bytes (run d n) = omega arith
-four-bytes lift = omega arith
-four-bytes (expand q) = omega arith
-four-bytes (shrink q) = omega arith
-
 each-a-byte : (os : List Order) → length os ≤ length (encodeAll os)
 unfolding encodeAll
 each-a-byte [] = omega arith
-each-a-byte (o ∷ os) = omega (arith, length-append (encode o) (encodeAll os), four-bytes o, each-a-byte os)
+each-a-byte (o ∷ os) = omega (arith, length-append (encode o) (encodeAll os), header o [] .2, each-a-byte os)
 
 read-back : (os : List Order) (n : ℕ) → length os ≤ n → (splits n (encodeAll os) ≡ true) × (ordersIn n (encodeAll os) ≡ os)
 unfolding encodeAll splits ordersIn
@@ -166,8 +161,8 @@ read-back (o ∷ os) zero h = absurd (omega arith)
 read-back (o ∷ os) (suc n) h =
     let r = encodeAll os in
     let b = read-back os n (omega arith) in
-    let some : eqb (length (encode o ++ r)) 0 ≡ false = ne-eqb (length (encode o ++ r)) 0 (omega (arith, length-append (encode o) r, four-bytes o)) in
-    let size : eqb (length (encode o)) 0 ≡ false = ne-eqb (length (encode o)) 0 (omega (arith, four-bytes o)) in (
+    let some : eqb (length (encode o ++ r)) 0 ≡ false = ne-eqb (length (encode o ++ r)) 0 (omega (arith, length-append (encode o) r, header o r .2)) in
+    let size : eqb (length (encode o)) 0 ≡ false = ne-eqb (length (encode o)) 0 (omega (arith, header o r .2)) in (
       rw (some, size-written o r, size, drop-append-seam (encode o) r) (b .0),
       rw (some, size-written o r, order-written o r, drop-append-seam (encode o) r) (ap (λ (l : List Order). o ∷ l) (b .1)),
     )

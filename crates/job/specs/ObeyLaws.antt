@@ -2,8 +2,8 @@
 -- Assumes nothing.
 use mathlib.Core.Path.{_≡_, refl, sym, ap, _∙_}
 use mathlib.Core.List.{List, _++_, append-nil}
-use mathlib.Core.Bool.{Bool, true, false, cond, _&&_}
-use Prim.Native.Nat.{ℕ, _+_, _*_, _≤_}
+use mathlib.Core.Bool.{Bool, true, false, cond, _&&_, and-false}
+use Prim.Native.Nat.{ℕ, zero, suc, _+_, _*_, _<_, _≤_}
 use native.Mathlib.Decide.{decLe}
 use native.Mathlib.Omega.{arith}
 use lib.IntN.{ℤ}
@@ -11,7 +11,7 @@ use lib.ListN.{length, take, drop, length-drop, drop-of-length-le, take-append-d
 use lib.Seq.{take-all, take-at, drop-at, length-take-le, take-length, drop-length}
 use lib.Dec.{eqb, leb}
 use borrow.Author.Tests.{le-leb, lt-leb, ne-eqb, eqb-true, leb-true}
-use Rattle.raster.specs.Tests.{and-left, and-right, cond-ind}
+use Rattle.raster.specs.Tests.{and-left, and-right}
 use Rattle.session.specs.declared.Session.{Session}
 use Rattle.session.specs.declared.Reply.{Reply}
 use Rattle.morphology.specs.Resize.{expanded, shrunk}
@@ -67,28 +67,16 @@ module _ {A : Type 0} (n : ℕ) (l p : List A) {r : ℕ} (e : r ≡ upto n (leng
 
 -- ---- a whole record of a known kind
 
--- a kind outside 1 to 9 has no length
-no-size : (k : ℕ) → ((1 ≤ k) × (k ≤ 9) → ⊥) → sizeOf k ≡ 0
+-- a kind above 9 has no length, and neither has 0
+no-size : (k : ℕ) → 9 < k → sizeOf k ≡ 0
 unfolding sizeOf
-no-size k range =
-    let two : eqb k 2 ≡ false = ne-eqb k 2 (λ e. range (omega arith, omega arith)) in
-    let three : eqb k 3 ≡ false = ne-eqb k 3 (λ e. range (omega arith, omega arith)) in
-    let four : eqb k 4 ≡ false = ne-eqb k 4 (λ e. range (omega arith, omega arith)) in
-    let five : eqb k 5 ≡ false = ne-eqb k 5 (λ e. range (omega arith, omega arith)) in
-    let seven : eqb k 7 ≡ false = ne-eqb k 7 (λ e. range (omega arith, omega arith)) in
-    rw (two, three, four, five, seven)
-    (cond-ind (λ (n : ℕ). n ≡ 0) (leb 1 k && leb k 9)
-    (λ e. absurd (range (leb-true 1 k (and-left (leb 1 k) _ e), leb-true k 9 (and-right (leb 1 k) _ e))))
-    (λ _. refl))
+no-size k h =
+    rw (ne-eqb k 2 (omega arith), ne-eqb k 3 (omega arith), ne-eqb k 5 (omega arith), ne-eqb k 4 (omega arith), ne-eqb k 7 (omega arith), lt-leb k 9 h, and-false)
 
 has-size : (k : ℕ) → (sizeOf k ≡ 0 → ⊥) → (1 ≤ k) × (k ≤ 9)
-has-size k some = elim (decLe 1 k) [
-  | yes l ↦ elim (decLe k 9) [
-    | yes h ↦ (l, h)
-    | no h ↦ absurd (some (no-size k (λ r. absurd (omega (arith, r .1)))))
-  ]
-  | no l ↦ absurd (some (no-size k (λ r. absurd (omega (arith, r .0)))))
-]
+unfolding sizeOf
+has-size zero some = absurd (some refl)
+has-size (suc k) some = elim (decLe (suc k) 9) [ yes h ↦ (omega arith, h) | no h ↦ absurd (some (no-size (suc k) (omega arith))) ]
 
 pub here : (b : List ℕ) {size : ℕ} → size ≡ sizeHere b → (size ≡ 0 → ⊥) → Here b
 unfolding sizeHere
