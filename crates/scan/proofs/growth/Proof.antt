@@ -73,17 +73,6 @@ less-is v near =
 
 -- ---- the needs
 
-add-result : tie.Need-add-result
-add-result c =
-    let s = c .before in
-    simp (toZ-ofZ, s .fits .v) (twice-fits (s .args .v) (s .pre .0))
-
-sub-result : tie.Need-sub-result
-sub-result c =
-    let s = c .before in
-    let v = s .args .v in
-    simp (toZ-ofZ, s .fits .v, twice-fits v (s .pre .0), negℤ-+ℤ v v) (more-fits (negℤ v) (near-minus v (s .pre .0)))
-
 cast-result : tie.Need-cast-result
 cast-result c =
     let s = c .before in
@@ -98,17 +87,6 @@ returns c =
     let n = near-minus v (s .pre .0) in
     let o = step-down (s .args .o) (s .pre .1) (simp (toZ-ofZ, s .fits .o) at (holds (c .if1 .taken))) in
     simp (toZ-ofZ, s .fits .v, twice-fits v (s .pre .0), negℤ-+ℤ v v, more-fits (negℤ v) n, o) (less-is v n, more-far (negℤ v) n)
-
-add-result-2 : tie.Need-add-result-2
-add-result-2 c =
-    let s = c .before .before in
-    simp (toZ-ofZ, s .fits .v) (twice-fits (s .args .v) (s .pre .0))
-
-add-result-3 : tie.Need-add-result-3
-add-result-3 c =
-    let s = c .before .before in
-    let v = s .args .v in
-    simp (toZ-ofZ, s .fits .v, twice-fits v (s .pre .0)) (more-fits v (s .pre .0))
 
 cast-result-2 : tie.Need-cast-result-2
 cast-result-2 c =
@@ -135,12 +113,13 @@ pub growth-spec : {M : Type 1} → statement M
 growth-spec =
     tie.close
     (tie.spec
-    add-result
-    sub-result
+    (λ c. let s = c .before in simp (toZ-ofZ, s .fits .v) (twice-fits (s .args .v) (s .pre .0)))
+    (λ c. let s = c .before in let v = s .args .v in
+    simp (toZ-ofZ, s .fits .v, twice-fits v (s .pre .0), negℤ-+ℤ v v) (more-fits (negℤ v) (near-minus v (s .pre .0))))
     cast-result
     returns
-    add-result-2
-    add-result-3
+    (λ c. let s = c .before .before in simp (toZ-ofZ, s .fits .v) (twice-fits (s .args .v) (s .pre .0)))
+    (λ c. let s = c .before .before in let v = s .args .v in simp (toZ-ofZ, s .fits .v, twice-fits v (s .pre .0)) (more-fits v (s .pre .0)))
     cast-result-2
     returns-2
     returns-3)
