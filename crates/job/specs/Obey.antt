@@ -14,7 +14,7 @@ use Rattle.session.specs.Calls.{onDone, openAnswer, fillAnswer, filledBy, build
 use Rattle.session.specs.State.{openedAs, stale}
 use Rattle.raster.specs.Map.{unmapped}
 use Rattle.raster.specs.Sheet.{bare}
-use Rattle.job.specs.Format.{Order, word, long, sizeOf, splits, ordersIn, ordersOf}
+use Rattle.job.specs.Format.{Order, word, sizeOf, splits, ordersIn, ordersOf}
 use Rattle.job.specs.Text.{textFrom}
 use Rattle.job.specs.declared.Done.{Done}
 use Rattle.job.specs.Run.{Bench, sheetOf, mapOf, answerOf, stepped, callsOf, benchAfter, answersOf, reportOf}
@@ -26,39 +26,39 @@ pub record Here (b : List ℕ) : Type 0 where
   pub said : word b 0 ≡ sizeOf (word b 2)
   pub size : sizeOf (word b 2) ≤ length b
 
--- ---- what the functions that obey one kind of record leave, beside b, the record's bytes
+-- ---- what the functions that obey one kind of record leave, by the record's fields
 
 -- the first n of a list of k elements
 abbrev pub upto : (n k : ℕ) → ℕ
 upto n k = cond (leb n k) n k
 
 -- 1, opening, in the first w × h bytes of the sheet buffer
-pub record Opened (b : List ℕ) (s : Session) (n : ℕ) (sheet : List ℕ) (r : Done) (left : List ℕ) : Type 0 where
-  pub answer : r .answer ≡ openAnswer (take (word b 6 * word b 4) sheet) (word b 4) (word b 6)
-  pub session : r .session ≡ onDone (r .answer) (openedAs (word b 4) (word b 6)) s
-  pub pixels : r .pixels ≡ onDone (r .answer) (word b 6 * word b 4) n
-  pub lent : take (r .pixels) left ≡ onDone (r .answer) (bare (take (word b 6 * word b 4) sheet)) (take n sheet)
-  pub behind : drop (r .pixels) left ≡ onDone (r .answer) (drop (word b 6 * word b 4) sheet) (drop n sheet)
+pub record Opened (w h : ℕ) (s : Session) (n : ℕ) (sheet : List ℕ) (r : Done) (left : List ℕ) : Type 0 where
+  pub answer : r .answer ≡ openAnswer (take (h * w) sheet) w h
+  pub session : r .session ≡ onDone (r .answer) (openedAs w h) s
+  pub pixels : r .pixels ≡ onDone (r .answer) (h * w) n
+  pub lent : take (r .pixels) left ≡ onDone (r .answer) (bare (take (h * w) sheet)) (take n sheet)
+  pub behind : drop (r .pixels) left ≡ onDone (r .answer) (drop (h * w) sheet) (drop n sheet)
   pub within : r .pixels ≤ length left
 
 -- 2 and 3, paint and erase, in the first n bytes of the sheet buffer
-pub record Filled (v : ℕ) (b : List ℕ) (s : Session) (n : ℕ) (sheet : List ℕ) (r : Reply) (left : List ℕ) : Type 0 where
-  pub answer : r .answer ≡ fillAnswer s (take n sheet) (word b 4) (word b 6) (word b 8) (word b 10)
+pub record Filled (v x y cols rows : ℕ) (s : Session) (n : ℕ) (sheet : List ℕ) (r : Reply) (left : List ℕ) : Type 0 where
+  pub answer : r .answer ≡ fillAnswer s (take n sheet) x y cols rows
   pub session : r .session ≡ onDone (r .answer) (stale s) s
-  pub lent : take n left ≡ onDone (r .answer) (filledBy s (word b 4) (word b 6) (word b 8) (word b 10) v (take n sheet)) (take n sheet)
+  pub lent : take n left ≡ onDone (r .answer) (filledBy s x y cols rows v (take n sheet)) (take n sheet)
   pub behind : drop n left ≡ drop n sheet
 
 -- 4, build, in the first 2 × n numbers of the map buffer and n of the scratch buffer
-pub record Built (b : List ℕ) (s : Session) (n : ℕ) (sheet : List ℕ) (map scratch : List ℤ) (r : Reply) (left worn : List ℤ) : Type 0 where
-  pub answer : r .answer ≡ buildAnswer s (take n sheet) (take (2 * n) map) (take n scratch) (word b 4)
-  pub session : r .session ≡ buildSession s (word b 4) (r .answer)
-  pub lent-map : take (2 * n) left ≡ buildMap s (take n sheet) (take (2 * n) map) (word b 4) (r .answer)
+pub record Built (engine : ℕ) (s : Session) (n : ℕ) (sheet : List ℕ) (map scratch : List ℤ) (r : Reply) (left worn : List ℤ) : Type 0 where
+  pub answer : r .answer ≡ buildAnswer s (take n sheet) (take (2 * n) map) (take n scratch) engine
+  pub session : r .session ≡ buildSession s engine (r .answer)
+  pub lent-map : take (2 * n) left ≡ buildMap s (take n sheet) (take (2 * n) map) engine (r .answer)
   pub behind-map : drop (2 * n) left ≡ drop (2 * n) map
-  pub left-scratch : worn ≡ buildScratch s (take n scratch) (word b 4) (r .answer) ++ drop n scratch
+  pub left-scratch : worn ≡ buildScratch s (take n scratch) engine (r .answer) ++ drop n scratch
 
 -- 8 and 9, expand and shrink: the sheet is then `resized`
-pub record Resized (b : List ℕ) (s : Session) (n : ℕ) (sheet : List ℕ) (map scratch : List ℤ) (r : Reply) (cut : List ℕ) (left worn : List ℤ) (resized : List ℕ → List ℕ) : Type 0 where
-  pub answer : r .answer ≡ resizeAnswer s (take n sheet) (take (2 * n) map) (take n scratch) (long b 4)
+pub record Resized (q : ℕ) (s : Session) (n : ℕ) (sheet : List ℕ) (map scratch : List ℤ) (r : Reply) (cut : List ℕ) (left worn : List ℤ) (resized : List ℕ → List ℕ) : Type 0 where
+  pub answer : r .answer ≡ resizeAnswer s (take n sheet) (take (2 * n) map) (take n scratch) q
   pub session : r .session ≡ onDone (r .answer) (stale s) s
   pub lent-sheet : take n cut ≡ onDone (r .answer) (resized (take n sheet)) (take n sheet)
   pub behind-sheet : drop n cut ≡ drop n sheet

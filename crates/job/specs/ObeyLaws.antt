@@ -16,7 +16,7 @@ use Rattle.session.specs.declared.Session.{Session}
 use Rattle.session.specs.declared.Reply.{Reply}
 use Rattle.morphology.specs.Resize.{expanded, shrunk}
 use Rattle.job.specs.declared.Done.{Done}
-use Rattle.job.specs.Format.{opening, paint, erase, build, expand, shrink, word, long, sizeOf, sizeHere}
+use Rattle.job.specs.Format.{opening, paint, erase, build, expand, shrink, word, sizeOf, sizeHere}
 use Rattle.job.specs.Run.{benchOf}
 use Rattle.job.specs.Obey.{upto, Here, Obeyed, Opened, Filled, Built, Resized}
 
@@ -116,10 +116,10 @@ chosen : {A : Type 0} (f : ℕ → A) (t : Bool) (x y : ℕ) → f (cond t x y) 
 chosen f true x y = refl
 chosen f false x y = refl
 
-module _ {b : List ℕ} {s : Session} {n : ℕ} {sheet : List ℕ} (map scratch : List ℤ) where
-  pub open-obeyed : {r : Done} {left : List ℕ} → Opened b s n sheet r left
-      → Obeyed (opening (word b 4) (word b 6)) (benchOf s n sheet map scratch) (r .answer) (benchOf (r .session) (r .pixels) left map scratch)
-  open-obeyed {r} f = record {
+module _ {s : Session} {n : ℕ} {sheet : List ℕ} (map scratch : List ℤ) where
+  pub open-obeyed : {w h : ℕ} {r : Done} {left : List ℕ} → Opened w h s n sheet r left
+      → Obeyed (opening w h) (benchOf s n sheet map scratch) (r .answer) (benchOf (r .session) (r .pixels) left map scratch)
+  open-obeyed {w} {h} {r} f = record {
     answer = rw (take-append-drop n sheet) (f .answer);
     left =
         rw (
@@ -130,31 +130,31 @@ module _ {b : List ℕ} {s : Session} {n : ℕ} {sheet : List ℕ} (map scratch 
           f .lent,
           f .behind,
           f .pixels,
-          chosen (λ (k : ℕ). take (2 * k) map) (eqb (r .answer) 0) (word b 6 * word b 4) n,
-          chosen (λ (k : ℕ). drop (2 * k) map) (eqb (r .answer) 0) (word b 6 * word b 4) n,
+          chosen (λ (k : ℕ). take (2 * k) map) (eqb (r .answer) 0) (h * w) n,
+          chosen (λ (k : ℕ). drop (2 * k) map) (eqb (r .answer) 0) (h * w) n,
         );
   }
 
-  pub paint-obeyed : {r : Reply} {left : List ℕ} → Filled 1 b s n sheet r left
-      → Obeyed (paint (word b 4) (word b 6) (word b 8) (word b 10)) (benchOf s n sheet map scratch) (r .answer) (benchOf (r .session) n left map scratch)
+  pub paint-obeyed : {x y cols rows : ℕ} {r : Reply} {left : List ℕ} → Filled 1 x y cols rows s n sheet r left
+      → Obeyed (paint x y cols rows) (benchOf s n sheet map scratch) (r .answer) (benchOf (r .session) n left map scratch)
   paint-obeyed f = record { answer = f .answer; left = rw (← f .answer, f .session, f .lent, f .behind) }
 
-  pub erase-obeyed : {r : Reply} {left : List ℕ} → Filled 0 b s n sheet r left
-      → Obeyed (erase (word b 4) (word b 6) (word b 8) (word b 10)) (benchOf s n sheet map scratch) (r .answer) (benchOf (r .session) n left map scratch)
+  pub erase-obeyed : {x y cols rows : ℕ} {r : Reply} {left : List ℕ} → Filled 0 x y cols rows s n sheet r left
+      → Obeyed (erase x y cols rows) (benchOf s n sheet map scratch) (r .answer) (benchOf (r .session) n left map scratch)
   erase-obeyed f = record { answer = f .answer; left = rw (← f .answer, f .session, f .lent, f .behind) }
 
-module _ {b : List ℕ} {s : Session} {n : ℕ} {sheet : List ℕ} {map scratch : List ℤ} (within : n ≤ length sheet) where
-  pub build-obeyed : {r : Reply} {left worn : List ℤ} → Built b s n sheet map scratch r left worn
-      → Obeyed (build (word b 4)) (benchOf s n sheet map scratch) (r .answer) (benchOf (r .session) n sheet left worn)
+module _ {s : Session} {n : ℕ} {sheet : List ℕ} {map scratch : List ℤ} (within : n ≤ length sheet) where
+  pub build-obeyed : {engine : ℕ} {r : Reply} {left worn : List ℤ} → Built engine s n sheet map scratch r left worn
+      → Obeyed (build engine) (benchOf s n sheet map scratch) (r .answer) (benchOf (r .session) n sheet left worn)
   build-obeyed f =
       record {
         answer = rw (length-take-le n sheet within) (f .answer);
         left = rw (length-take-le n sheet within, ← f .answer, f .session, f .lent-map, f .behind-map, f .left-scratch);
       }
 
-  pub expand-obeyed : {r : Reply} {cut : List ℕ} {left worn : List ℤ}
-      → Resized b s n sheet map scratch r cut left worn (λ t. expanded (s .width) (s .height) (long b 4) t)
-      → Obeyed (expand (long b 4)) (benchOf s n sheet map scratch) (r .answer) (benchOf (r .session) n cut left worn)
+  pub expand-obeyed : {q : ℕ} {r : Reply} {cut : List ℕ} {left worn : List ℤ}
+      → Resized q s n sheet map scratch r cut left worn (λ t. expanded (s .width) (s .height) q t)
+      → Obeyed (expand q) (benchOf s n sheet map scratch) (r .answer) (benchOf (r .session) n cut left worn)
   expand-obeyed f =
       record {
         answer = rw (length-take-le n sheet within) (f .answer);
@@ -162,9 +162,9 @@ module _ {b : List ℕ} {s : Session} {n : ℕ} {sheet : List ℕ} {map scratch 
             rw (length-take-le n sheet within, ← f .answer, f .session, f .lent-sheet, f .behind-sheet, f .lent-map, f .behind-map, f .left-scratch);
       }
 
-  pub shrink-obeyed : {r : Reply} {cut : List ℕ} {left worn : List ℤ}
-      → Resized b s n sheet map scratch r cut left worn (λ t. shrunk (s .width) (s .height) (long b 4) t)
-      → Obeyed (shrink (long b 4)) (benchOf s n sheet map scratch) (r .answer) (benchOf (r .session) n cut left worn)
+  pub shrink-obeyed : {q : ℕ} {r : Reply} {cut : List ℕ} {left worn : List ℤ}
+      → Resized q s n sheet map scratch r cut left worn (λ t. shrunk (s .width) (s .height) q t)
+      → Obeyed (shrink q) (benchOf s n sheet map scratch) (r .answer) (benchOf (r .session) n cut left worn)
   shrink-obeyed f =
       record {
         answer = rw (length-take-le n sheet within) (f .answer);

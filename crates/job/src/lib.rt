@@ -210,7 +210,7 @@ fn area(w: u16, h: u16) -> usize
 // Kind 1, open: it is lent as much as its sheet needs; if it is refused, the former parts stay.
 fn obey_open(s: Session, n: usize, job: &[u8], at: usize, sheet: &mut [u8]) -> Done
     requires { ⌜ (at + 8 ≤ length (now job)) × (n ≤ length (now sheet)) ⌝ }
-    ensures { λ r. ⌜ Opened (drop at (now (job .entry))) s n (now (sheet .entry)) r (now (sheet .exit)) ⌝ }
+    ensures { λ r. ⌜ Opened (word (drop at (now (job .entry))) 4) (word (drop at (now (job .entry))) 6) s n (now (sheet .entry)) r (now (sheet .exit)) ⌝ }
 {
     let w = word_at(job, at, 4);
     let h = word_at(job, at, 6);
@@ -234,7 +234,7 @@ fn obey_open(s: Session, n: usize, job: &[u8], at: usize, sheet: &mut [u8]) -> D
 // Kind 2, paint.
 fn obey_paint(s: Session, n: usize, job: &[u8], at: usize, sheet: &mut [u8]) -> Reply
     requires { ⌜ (at + 12 ≤ length (now job)) × (n ≤ length (now sheet)) ⌝ }
-    ensures { λ r. ⌜ Filled 1 (drop at (now (job .entry))) s n (now (sheet .entry)) r (now (sheet .exit)) ⌝ }
+    ensures { λ r. ⌜ Filled 1 (word (drop at (now (job .entry))) 4) (word (drop at (now (job .entry))) 6) (word (drop at (now (job .entry))) 8) (word (drop at (now (job .entry))) 10) s n (now (sheet .entry)) r (now (sheet .exit)) ⌝ }
 {
     let x = word_at(job, at, 4);
     let y = word_at(job, at, 6);
@@ -246,7 +246,7 @@ fn obey_paint(s: Session, n: usize, job: &[u8], at: usize, sheet: &mut [u8]) -> 
 // Kind 3, erase.
 fn obey_erase(s: Session, n: usize, job: &[u8], at: usize, sheet: &mut [u8]) -> Reply
     requires { ⌜ (at + 12 ≤ length (now job)) × (n ≤ length (now sheet)) ⌝ }
-    ensures { λ r. ⌜ Filled 0 (drop at (now (job .entry))) s n (now (sheet .entry)) r (now (sheet .exit)) ⌝ }
+    ensures { λ r. ⌜ Filled 0 (word (drop at (now (job .entry))) 4) (word (drop at (now (job .entry))) 6) (word (drop at (now (job .entry))) 8) (word (drop at (now (job .entry))) 10) s n (now (sheet .entry)) r (now (sheet .exit)) ⌝ }
 {
     let x = word_at(job, at, 4);
     let y = word_at(job, at, 6);
@@ -266,7 +266,7 @@ fn obey_build(
     scratch: &mut [i16],
 ) -> Reply
     requires { ⌜ (at + 6 ≤ length (now job)) × (n ≤ length (now sheet)) ⌝ }
-    ensures { λ r. ⌜ Built (drop at (now (job .entry))) s n (now (sheet .entry)) (now (map .entry)) (now (scratch .entry)) r (now (map .exit)) (now (scratch .exit)) ⌝ }
+    ensures { λ r. ⌜ Built (word (drop at (now (job .entry))) 4) s n (now (sheet .entry)) (now (map .entry)) (now (scratch .entry)) r (now (map .exit)) (now (scratch .exit)) ⌝ }
 {
     let engine = word_at(job, at, 4);
     let numbers = first_pairs(n, map.len());
@@ -315,7 +315,7 @@ fn obey_expand(
     scratch: &mut [i16],
 ) -> Reply
     requires { ⌜ (at + 8 ≤ length (now job)) × (n ≤ length (now sheet)) ⌝ }
-    ensures { λ r. ⌜ Resized (drop at (now (job .entry))) s n (now (sheet .entry)) (now (map .entry)) (now (scratch .entry)) r (now (sheet .exit)) (now (map .exit)) (now (scratch .exit)) (λ t. expanded (s .width) (s .height) (long (drop at (now (job .entry))) 4) t) ⌝ }
+    ensures { λ r. ⌜ Resized (long (drop at (now (job .entry))) 4) s n (now (sheet .entry)) (now (map .entry)) (now (scratch .entry)) r (now (sheet .exit)) (now (map .exit)) (now (scratch .exit)) (λ t. expanded (s .width) (s .height) (long (drop at (now (job .entry))) 4) t) ⌝ }
 {
     let q = long_at(job, at, 4);
     let numbers = first_pairs(n, map.len());
@@ -339,7 +339,7 @@ fn obey_shrink(
     scratch: &mut [i16],
 ) -> Reply
     requires { ⌜ (at + 8 ≤ length (now job)) × (n ≤ length (now sheet)) ⌝ }
-    ensures { λ r. ⌜ Resized (drop at (now (job .entry))) s n (now (sheet .entry)) (now (map .entry)) (now (scratch .entry)) r (now (sheet .exit)) (now (map .exit)) (now (scratch .exit)) (λ t. shrunk (s .width) (s .height) (long (drop at (now (job .entry))) 4) t) ⌝ }
+    ensures { λ r. ⌜ Resized (long (drop at (now (job .entry))) 4) s n (now (sheet .entry)) (now (map .entry)) (now (scratch .entry)) r (now (sheet .exit)) (now (map .exit)) (now (scratch .exit)) (λ t. shrunk (s .width) (s .height) (long (drop at (now (job .entry))) 4) t) ⌝ }
 {
     let q = long_at(job, at, 4);
     let numbers = first_pairs(n, map.len());

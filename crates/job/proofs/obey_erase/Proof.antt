@@ -13,21 +13,13 @@ returns c =
     let y = cols .before in
     let x = y .before in
     let a = x .before .before .before .args in
-    record {
-      answer =
-          rw (← x .word-at .ensures, ← y .word-at2 .ensures, ← cols .word-at3 .ensures, ← rows .word-at4 .ensures) (p .erase .ensures .0);
+    rw (← x .word-at .ensures, ← y .word-at2 .ensures, ← cols .word-at3 .ensures, ← rows .word-at4 .ensures)
+    (record {
+      answer = p .erase .ensures .0;
       session = p .erase .ensures .1 .0;
-      lent =
-          rw (
-            part-lent (a .n) (a .sheet .now) (p .erase .last .1 .0) (p .erase .kept .1 .0),
-            ← x .word-at .ensures,
-            ← y .word-at2 .ensures,
-            ← cols .word-at3 .ensures,
-            ← rows .word-at4 .ensures,
-          )
-          (p .erase .ensures .1 .1);
+      lent = rw (part-lent (a .n) (a .sheet .now) (p .erase .last .1 .0) (p .erase .kept .1 .0)) (p .erase .ensures .1 .1);
       behind = part-behind (a .n) (a .sheet .now) (p .erase .last .1 .0) (p .erase .kept .1 .0);
-    }
+    })
 
 pub obey-erase-spec : {M : Type 1} → statement M
 obey-erase-spec =

@@ -15,12 +15,13 @@ returns c =
     let a = q .before .before .before .args in
     let numbers = m .first-pairs .ensures .0 in
     let worn = f .first .ensures .0 in
-    record {
+    rw (← q .long-at .ensures)
+    (record {
       answer =
-          rw (← q .long-at .ensures, ← upto-take (2 * a .n) (a .map .now) numbers, ← upto-take (a .n) (a .scratch .now) worn) (p .expand .ensures .0);
+          rw (← upto-take (2 * a .n) (a .map .now) numbers, ← upto-take (a .n) (a .scratch .now) worn) (p .expand .ensures .0);
       session = p .expand .ensures .1 .0;
       lent-sheet =
-          rw (part-lent (a .n) (a .sheet .now) (p .expand .last .1 .0) (p .expand .kept .1 .0), ← q .long-at .ensures) (p .expand .ensures .1 .1 .0);
+          rw (part-lent (a .n) (a .sheet .now) (p .expand .last .1 .0) (p .expand .kept .1 .0)) (p .expand .ensures .1 .1 .0);
       behind-sheet = part-behind (a .n) (a .sheet .now) (p .expand .last .1 .0) (p .expand .kept .1 .0);
       lent-map =
           rw (upto-lent (2 * a .n) (a .map .now) (p .expand .last .1 .1 .0) numbers (p .expand .kept .1 .1 .0), ← upto-take (2 * a .n) (a .map .now) numbers)
@@ -28,7 +29,7 @@ returns c =
       behind-map = upto-behind (2 * a .n) (a .map .now) (p .expand .last .1 .1 .0) numbers (p .expand .kept .1 .1 .0);
       left-scratch =
           rw (← upto-take (a .n) (a .scratch .now) worn, ← upto-drop (a .n) (a .scratch .now) worn, p .expand .ensures .1 .1 .1 .1);
-    }
+    })
 
 pub obey-expand-spec : {M : Type 1} → statement M
 obey-expand-spec =

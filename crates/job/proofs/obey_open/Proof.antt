@@ -5,7 +5,7 @@ use mathlib.Core.List.{_++_}
 use Prim.Native.Nat.{ℕ, _*_}
 use native.Mathlib.Omega.{arith}
 use lib.ListN.{length, take, drop, take-append-drop}
-use lib.Seq.{length-take-le, length-front}
+use lib.Seq.{length-front}
 use borrow.Author.Needs.{needs}
 use borrow.Author.Tests.{ne-eqb}
 use Rattle.job.specs.Obey.{upto}
@@ -28,18 +28,18 @@ returns c =
     let area : p ≡ upto (h .word-at2 .result * w .word-at .result) (length sheet) = rw (← f .before .area .ensures) (f .first .ensures .0) in
     let granted = sym (o .open-sheet .ensures .0) ∙ zero in
     let pixels : p ≡ h .word-at2 .result * w .word-at .result =
-    sym (length-take-le p sheet (f .first .ensures .1)) ∙ open-granted (take p sheet) (w .word-at .result) (h .word-at2 .result) granted .1 in
-    record {
-      answer = rw (← w .word-at .ensures, ← h .word-at2 .ensures, ← upto-take (h .word-at2 .result * w .word-at .result) sheet area) (sym granted);
-      session = rw (← w .word-at .ensures, ← h .word-at2 .ensures) (rw zero at (o .open-sheet .ensures .1 .0));
-      pixels = rw (← w .word-at .ensures, ← h .word-at2 .ensures) pixels;
+    part-length p sheet (f .first .ensures .1) ∙ open-granted (take p sheet) (w .word-at .result) (h .word-at2 .result) granted .1 in
+    rw (← w .word-at .ensures, ← h .word-at2 .ensures)
+    (record {
+      answer = rw (← upto-take (h .word-at2 .result * w .word-at .result) sheet area) (sym granted);
+      session = rw zero at (o .open-sheet .ensures .1 .0);
+      pixels = pixels;
       lent =
-          rw (part-lent p sheet last kept, ← w .word-at .ensures, ← h .word-at2 .ensures, ← upto-take (h .word-at2 .result * w .word-at .result) sheet area)
+          rw (part-lent p sheet last kept, ← upto-take (h .word-at2 .result * w .word-at .result) sheet area)
           (rw zero at (o .open-sheet .ensures .1 .1));
-      behind =
-          rw (part-behind p sheet last kept, ← w .word-at .ensures, ← h .word-at2 .ensures) (ap (λ (k : ℕ). drop k sheet) pixels);
+      behind = rw (part-behind p sheet last kept) (ap (λ (k : ℕ). drop k sheet) pixels);
       within = omega (arith, length-front sheet last p kept, f .first .ensures .1);
-    }
+    })
 
 returns-2 : tie.Need-returns-2
 returns-2 c =
@@ -54,16 +54,15 @@ returns-2 c =
     let area : p ≡ upto (h .word-at2 .result * w .word-at .result) (length sheet) = rw (← f .before .area .ensures) (f .first .ensures .0) in
     let back : o .open-sheet .last .1 .0 ++ drop p sheet ≡ sheet =
     rw (rw no at (o .open-sheet .ensures .1 .1)) (take-append-drop p sheet) in
-    record {
-      answer =
-          rw (← w .word-at .ensures, ← h .word-at2 .ensures, ← upto-take (h .word-at2 .result * w .word-at .result) sheet area)
-          (o .open-sheet .ensures .0);
-      session = rw (← w .word-at .ensures, ← h .word-at2 .ensures) (o .open-sheet .ensures .1 .0);
+    rw (← w .word-at .ensures, ← h .word-at2 .ensures)
+    (record {
+      answer = rw (← upto-take (h .word-at2 .result * w .word-at .result) sheet area) (o .open-sheet .ensures .0);
+      session = o .open-sheet .ensures .1 .0;
       pixels = rw no;
       lent = rw (no, back);
       behind = rw (no, back);
       within = rw back (t .pre .1);
-    }
+    })
 
 pub obey-open-spec : {M : Type 1} → statement M
 obey-open-spec =

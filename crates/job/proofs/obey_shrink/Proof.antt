@@ -15,12 +15,13 @@ returns c =
     let a = q .before .before .before .args in
     let numbers = m .first-pairs .ensures .0 in
     let worn = f .first .ensures .0 in
-    record {
+    rw (← q .long-at .ensures)
+    (record {
       answer =
-          rw (← q .long-at .ensures, ← upto-take (2 * a .n) (a .map .now) numbers, ← upto-take (a .n) (a .scratch .now) worn) (p .shrink .ensures .0);
+          rw (← upto-take (2 * a .n) (a .map .now) numbers, ← upto-take (a .n) (a .scratch .now) worn) (p .shrink .ensures .0);
       session = p .shrink .ensures .1 .0;
       lent-sheet =
-          rw (part-lent (a .n) (a .sheet .now) (p .shrink .last .1 .0) (p .shrink .kept .1 .0), ← q .long-at .ensures) (p .shrink .ensures .1 .1 .0);
+          rw (part-lent (a .n) (a .sheet .now) (p .shrink .last .1 .0) (p .shrink .kept .1 .0)) (p .shrink .ensures .1 .1 .0);
       behind-sheet = part-behind (a .n) (a .sheet .now) (p .shrink .last .1 .0) (p .shrink .kept .1 .0);
       lent-map =
           rw (upto-lent (2 * a .n) (a .map .now) (p .shrink .last .1 .1 .0) numbers (p .shrink .kept .1 .1 .0), ← upto-take (2 * a .n) (a .map .now) numbers)
@@ -28,7 +29,7 @@ returns c =
       behind-map = upto-behind (2 * a .n) (a .map .now) (p .shrink .last .1 .1 .0) numbers (p .shrink .kept .1 .1 .0);
       left-scratch =
           rw (← upto-take (a .n) (a .scratch .now) worn, ← upto-drop (a .n) (a .scratch .now) worn, p .shrink .ensures .1 .1 .1 .1);
-    }
+    })
 
 pub obey-shrink-spec : {M : Type 1} → statement M
 obey-shrink-spec =
