@@ -65,13 +65,11 @@ module _ (w y b : ℕ) (o : ℤ) (rows : y ≢ b) (x : ℕ) (on : x < w) (s : St
       (holds-told at (index w x b) (pos 0) o one (h .dx) (h .dy) ∙ ap (take at (index w x b) (pos 0) o) (seen-told at s l (negsuc 0)))
 
   -- the window moves on
-  next-left : Seen (ltb 0 (x + 1)) o mid (all .map) (index w (x + 1 - 1) b)
-  next-left =
-      let e : x ≡ x + 1 - 1 = omega arith in
-      rw (lt-ltb 0 (x + 1) (omega arith), ← e, ← lt-ltb x w on) (stays x (λ _. on) m)
-
-  next-mid : Seen (ltb (x + 1) w) o right (all .map) (index w (x + 1) b)
-  next-mid = stays (x + 1) (ltb-true (x + 1) w) r
+  turn : {t : State} → t ≡ all
+      → (t ≡ fromThree w true y b o x s) × Seen (ltb 0 (x + 1)) o mid (t .map) (index w (x + 1 - 1) b) × Seen (ltb (x + 1) w) o right (t .map) (index w (x + 1) b)
+  turn e =
+      let n : x ≡ x + 1 - 1 = omega arith in
+      (e ∙ made, rw (e, lt-ltb 0 (x + 1) (omega arith), ← n, ← lt-ltb x w on) (stays x (λ _. on) m), rw e (stays (x + 1) (ltb-true (x + 1) w) r))
 
 -- ---- the loop
 
@@ -105,14 +103,8 @@ loop-again c =
     let s = c .before .before .before .before .before .before .before .before .before .before in
     let a = s .args in
     let o = toZ w32 (ofZ w32 (a .o)) in
-    let u = state (l .map) (l .met) in
-    let e : t .last .0 ≡ all (a .w) (a .y) (a .before) o (s .pre .0 .0) (l .x) i u (l .inv .3) (l .inv .4) (n .ensures) .map = ap (λ (v : State). v .map) (t .ensures) in (
-      up-turn _ _ _ (t .ensures ∙ made (a .w) (a .y) (a .before) o (s .pre .0 .0) (l .x) i u (l .inv .3) (l .inv .4) (n .ensures)) (l .inv .0),
-      omega arith,
-      t .kept .0 ∙ l .inv .2,
-      rw e (next-left (a .w) (a .y) (a .before) o (s .pre .0 .0) (l .x) i u (l .inv .3) (l .inv .4) (n .ensures)),
-      rw e (next-mid (a .w) (a .y) (a .before) o (s .pre .0 .0) (l .x) i u (l .inv .3) (l .inv .4) (n .ensures)),
-    )
+    let v = turn (a .w) (a .y) (a .before) o (s .pre .0 .0) (l .x) i (state (l .map) (l .met)) (l .inv .3) (l .inv .4) (n .ensures) (t .ensures) in
+    (up-turn _ _ _ (v .0) (l .inv .0), omega arith, t .kept .0 ∙ l .inv .2, v .1, v .2)
 
 returns : tie.Need-returns Inv-loop μ-loop
 unfolding fromRow
