@@ -5,7 +5,6 @@ use mathlib.Core.Path.{_≡_, refl, sym, _∙_}
 use mathlib.Core.Bool.{Bool, true, false, _&&_, _||_}
 use mathlib.Core.List.{List, [], _∷_}
 use Prim.Native.Nat.{ℕ, zero, suc, _+_, _*_, _≤_, _<_}
-use native.Mathlib.Nat.{mul-le-mul}
 use native.Mathlib.Omega.{arith}
 use lib.Dec.{eqb, leb, ltb}
 use lib.IntN.{ℤ}
@@ -27,12 +26,11 @@ both a b e = (and-left a b e, and-right a b e)
 
 -- ---- what a sound session says
 
--- an open sheet's sides are within their limit, and so is the number of its pixels
+-- an open sheet's sides are within their limits
 pub record Limited (s : Session) : Type 0 where
   pub some : 0 < s .width
   pub wide : s .width ≤ maxSide
   pub high : s .height ≤ maxSide
-  pub pixels : s .height * s .width ≤ maxQ
 
 pub active-sides : (s : Session) → active s ≡ true → side (s .width) && side (s .height) ≡ true
 unfolding sound sheetSound
@@ -42,9 +40,7 @@ pub active-limits : (s : Session) → active s ≡ true → Limited s
 active-limits s e =
     let sides = both (side (s .width)) _ (active-sides s e) in
     let across = both (leb 1 (s .width)) _ (sides .0) in
-    let wide = leb-true (s .width) maxSide (across .1) in
-    let high = leb-true (s .height) maxSide (and-right (leb 1 (s .height)) _ (sides .1)) in
-    record { some = leb-true 1 (s .width) (across .0); wide = wide; high = high; pixels = omega (arith, mul-le-mul high wide) }
+    record { some = leb-true _ _ (across .0); wide = leb-true _ _ (across .1); high = leb-true _ _ (and-right (leb 1 (s .height)) _ (sides .1)) }
 
 -- a lowered cutter is on the sheet over a current map, its q within the limit
 pub record Lowered (s : Session) : Type 0 where
