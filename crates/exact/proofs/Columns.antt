@@ -21,7 +21,7 @@ use Rattle.envelope.specs.Best.{priceOf, price, Site, better, bestSite}
 use Rattle.envelope.specs.BestLaws.{better-none, better-first, better-new, better-old}
 use Rattle.exact.specs.Nearest.{Found, none, at, nearer, visit}
 use Rattle.exact.specs.Ways.{up, down, shorter, costOf}
-use Rattle.exact.proofs.Foot.{Nearest, Foot, row, no-row, same-row, foot}
+use Rattle.exact.proofs.Foot.{NearestRow, Foot, row, no-row, same-row, foot}
 use Rattle.exact.proofs.Search.{no-copper, column-search}
 
 -- a way to a row of the sheet is as long as the rows lie apart, and is not the mark
@@ -37,7 +37,7 @@ module _ (copper : Mask) (w h : ℕ) (wide : w ≤ maxSide) (tall : h ≤ maxSid
   abbrev pub way : ℕ → ℤ
   way k = shorter (up copper k y) (down copper h k y)
 
-  pub way-row : (k r : ℕ) → Nearest copper h k y r → way k ≡ pos r -ℤ pos y
+  pub way-row : (k r : ℕ) → NearestRow copper h k y r → way k ≡ pos r -ℤ pos y
   way-row k r best = go (foot copper h k y inside)
     where
       go : {v : ℤ} → Foot copper h k y v → v ≡ pos r -ℤ pos y
@@ -45,26 +45,26 @@ module _ (copper : Mask) (w h : ℕ) (wide : w ≤ maxSide) (tall : h ≤ maxSid
       go (no-row bare) = absurd (true≢false (sym (best .metal) ∙ bare r (best .on)))
 
   module _ (x : ℕ) (G : List ℕ) (costs : (k : ℕ) → k < w → getD G k 0 ≡ costOf (way k)) where
-    row-cost : (k r : ℕ) → k < w → Nearest copper h k y r → getD G k 0 ≡ gap y r * gap y r
+    row-cost : (k r : ℕ) → k < w → NearestRow copper h k y r → getD G k 0 ≡ gap y r * gap y r
     row-cost k r l best = costs k l ∙ ap costOf (way-row k r best) ∙ way-cost y r h tall inside (best .on)
 
-    pub row-site : (k r : ℕ) → k < w → Nearest copper h k y r → Site G k
+    pub row-site : (k r : ℕ) → k < w → NearestRow copper h k y r → Site G k
     row-site k r l best = let g = gap-below y r h inside (best .on) in let s : gap y r ≤ 2047 = omega arith in omega (arith, row-cost k r l best, mul-le-mul s s)
 
-    pub row-price : (k r : ℕ) → k < w → Nearest copper h k y r → price G x k ≡ apart x y k r
+    pub row-price : (k r : ℕ) → k < w → NearestRow copper h k y r → price G x k ≡ apart x y k r
     unfolding priceOf apart
     row-price k r l best = rw (row-cost k r l best)
 
     -- what was found in the first n columns, and their best site
     pub data Agree (n : ℕ) : Found → ℕ → Type 0 where
       nothing : Agree n none 65535
-      some : (k r : ℕ) → k < n → Nearest copper h k y r → Agree n (at k r) k
+      some : (k r : ℕ) → k < n → NearestRow copper h k y r → Agree n (at k r) k
 
     longer : {n : ℕ} {f : Found} {b : ℕ} → Agree n f b → Agree (suc n) f b
     longer nothing = nothing
     longer (some k r l best) = some k r (omega arith) best
 
-    with-row : (n : ℕ) → n < w → (r : ℕ) → Nearest copper h n y r → {f : Found} {b : ℕ} → Agree n f b → Agree (suc n) (cond (nearer x y n r f) (at n r) f) (better G x b n)
+    with-row : (n : ℕ) → n < w → (r : ℕ) → NearestRow copper h n y r → {f : Found} {b : ℕ} → Agree n f b → Agree (suc n) (cond (nearer x y n r f) (at n r) f) (better G x b n)
     with-row n l r best nothing = rw (better-first G x 65535 n (row-site n r l best) refl) (some n r (omega arith) best)
     with-row n l r best (some k s m other) = go (ltb (apart x y n r) (apart x y k s)) refl
       where

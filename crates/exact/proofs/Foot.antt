@@ -17,14 +17,14 @@ use Rattle.exact.specs.Ways.{up, down, shorter}
 use Rattle.exact.proofs.Back.{Back, found, nothing, back}
 
 -- r is the row of the nearest copper of column i from row y, among equals the least row
-pub record Nearest (copper : Mask) (h i y r : ℕ) : Type 0 where
+pub record NearestRow (copper : Mask) (h i y r : ℕ) : Type 0 where
   pub on : r < h
   pub metal : copper i r ≡ true
   pub least : (j : ℕ) → j < h → copper i j ≡ true → gap y r ≤ gap y j
   pub first : (j : ℕ) → j < r → copper i j ≡ true → gap y r < gap y j
 
 -- there is one such row
-pub same-row : (copper : Mask) (h i y r s : ℕ) → Nearest copper h i y r → Nearest copper h i y s → r ≡ s
+pub same-row : (copper : Mask) (h i y r s : ℕ) → NearestRow copper h i y r → NearestRow copper h i y s → r ≡ s
 same-row copper h i y r s p q = elim (decLt r s) [
   | yes l ↦ absurd (omega (arith, q .first r l (p .metal), p .least s (q .on) (q .metal)))
   | no n ↦ elim (decLt s r) [
@@ -35,7 +35,7 @@ same-row copper h i y r s p q = elim (decLt r s) [
 
 -- what a way says of its column
 pub data Foot (copper : Mask) (h i y : ℕ) : ℤ → Type 0 where
-  row : (r : ℕ) → Nearest copper h i y r → Foot copper h i y (pos r -ℤ pos y)
+  row : (r : ℕ) → NearestRow copper h i y r → Foot copper h i y (pos r -ℤ pos y)
   no-row : ((j : ℕ) → j < h → copper i j ≡ false) → Foot copper h i y mark
 
 module _ (copper : Mask) (h i y : ℕ) (inside : y < h) where
@@ -51,7 +51,7 @@ module _ (copper : Mask) (h i y : ℕ) (inside : y < h) where
     beyond : (j : ℕ) → y ≤ j → j < h → copper i j ≡ true → y + m ≤ j
 
   -- the nearest of both, the one above, the one below
-  nearest-up : (n : ℕ) → Up n → ((j : ℕ) → y < j → j < h → copper i j ≡ true → y + n ≤ j) → Nearest copper h i y (y - n)
+  nearest-up : (n : ℕ) → Up n → ((j : ℕ) → y < j → j < h → copper i j ≡ true → y + n ≤ j) → NearestRow copper h i y (y - n)
   unfolding gap
   nearest-up n u under = record {
     on = omega arith;
@@ -60,7 +60,7 @@ module _ (copper : Mask) (h i y : ℕ) (inside : y < h) where
     first = λ j l c. omega (arith, u .near, u .beyond j (omega arith) c);
   }
 
-  nearest-down : (m : ℕ) → Down m → ((j : ℕ) → j ≤ y → copper i j ≡ true → j + m < y) → Nearest copper h i y (y + m)
+  nearest-down : (m : ℕ) → Down m → ((j : ℕ) → j ≤ y → copper i j ≡ true → j + m < y) → NearestRow copper h i y (y + m)
   unfolding gap
   nearest-down m d over = record {
     on = d .near;

@@ -13,7 +13,7 @@ use Rattle.raster.specs.DistanceLaws.{square-le}
 use Rattle.raster.specs.Loop.{ascend}
 use Rattle.raster.specs.Pixels.{Mask}
 use Rattle.exact.specs.Nearest.{Found, none, at, nearer, visit}
-use Rattle.exact.proofs.Foot.{Nearest}
+use Rattle.exact.proofs.Foot.{NearestRow}
 
 module _ (copper : Mask) (x y h i : ℕ) where
   -- in one column the squared distance goes by the row
@@ -47,7 +47,7 @@ module _ (copper : Mask) (x y h i : ℕ) where
   no-copper bare zero l f = refl
   no-copper bare (suc n) l f = ap (visit copper x y i n) (no-copper bare n (omega arith) f) ∙ passed n f (λ c. absurd (true≢false (sym c ∙ bare n (omega arith))))
 
-  module _ (r : ℕ) (best : Nearest copper h i y r) (f : Found) where
+  module _ (r : ℕ) (best : NearestRow copper h i y r) (f : Found) where
     -- before the row r: what was found, or a pixel of the column that is nearer than that
     data Before (n : ℕ) : Found → Type 0 where
       same : Before n f

@@ -1,46 +1,44 @@
 -- What the exact map guarantees, at every pixel of every sheet up to 2,048 × 2,048: document 01, "Engines".
 --   With copper, the vector ends on a copper pixel (`ends-on-copper`), no copper pixel is nearer (`least`), and of those as near it is the one of least
---   column, then least row (`first-of-equals`). Without copper every pixel is unlabelled. No component is outside ±2,047. The gate passes exactly where
---   all copper is above q.
+--   column, then least row (`is-exact`, which says all of it); no other map is so (`only-exact`). Without copper every pixel is unlabelled. No component
+--   is outside ±2,047. The gate passes exactly where all copper is above q.
 -- Assumes nothing.
 use mathlib.Core.Path.{_≡_, sym, ap, _∙_}
 use mathlib.Core.Logic.{_⊎_, inl, inr}
-use mathlib.Core.Bool.{true, false, _&&_, true≢false}
+use mathlib.Core.Bool.{true, false, _&&_, true≢false, false≢true}
 use mathlib.Core.List.{List}
-use Prim.Native.Nat.{ℕ, _<_, _≤_}
+use Prim.Native.Nat.{ℕ, _*_, _<_, _≤_}
 use native.Mathlib.Decide.{decLt}
 use native.Mathlib.Omega.{arith}
-use lib.IntN.{ℤ, pos, _-ℤ_}
-use lib.ListN.{getD}
+use lib.IntN.{ℤ, pos, negsuc, _+ℤ_, _-ℤ_, +ℤ-comm, +ℤ-negℤ-cancel}
+use lib.ListN.{length, getD}
+use borrow.Author.Tests.{eqb-true}
 use Rattle.raster.specs.Distance.{apart, Copper, Clear}
 use Rattle.raster.specs.Gate.{passes, NearBy}
 use Rattle.raster.specs.GateLaws.{passed-above, failed-near}
 use Rattle.raster.specs.Limits.{maxSide}
 use Rattle.raster.specs.Map.{dxAt, dyAt}
-use Rattle.raster.specs.MapLaws.{vectors-dx, vectors-dy}
+use Rattle.raster.specs.MapLaws.{vectors-dx, vectors-dy, vectors-is}
 use Rattle.raster.specs.Pixels.{Mask, index, tabulate}
 use Rattle.raster.specs.PixelsLaws.{tabulate-at}
-use Rattle.raster.specs.Vector.{size, inRange, unlabelled, Ends, Target}
+use Rattle.raster.specs.Vector.{size, mark, isMark, inRange, unlabelled, Target}
 use Rattle.raster.specs.VectorLaws.{range-labelled, way-ends, ends-size, target-range}
-use Rattle.raster.specs.Tests.{and-left}
+use Rattle.raster.specs.Tests.{and-left, and-right}
 use Rattle.envelope.specs.Best.{price, Site}
 use Rattle.envelope.specs.BestLaws.{best-found}
 use Rattle.envelope.specs.BestLaws as best
-use Rattle.exact.specs.Nearest.{Found, none, at, nearest, toColumn, toRow, exactMap, gate}
+use Rattle.exact.specs.Nearest.{Nearest, Exact, to-nearest, bare-sheet, Found, none, at, nearest, toColumn, toRow, exactMap, gate}
 use Rattle.exact.specs.Ways.{costOf}
-use Rattle.exact.proofs.Foot.{Nearest, Foot, row, no-row, foot}
+use Rattle.exact.proofs.Foot.{NearestRow, Foot, row, no-row, foot}
 use Rattle.exact.proofs.Search.{closer, as-close}
 use Rattle.exact.proofs.Columns.{way, row-site, row-price, Agree, nothing, some, agree}
 
-module _ (copper : Mask) (w h : ℕ) (wide : w ≤ maxSide) (tall : h ≤ maxSide) (x y : ℕ) (across : x < w) (down : y < h) where
-  -- what the run through the copper pixels finds
-  pub data Answer : Found → Type 0 where
-    no-copper : ((i j : ℕ) → Copper copper w h i j → ⊥) → Answer none
-    nearest-at : (i j : ℕ) → Copper copper w h i j
-        → ((a b : ℕ) → Copper copper w h a b → apart x y i j ≤ apart x y a b)
-        → ((a b : ℕ) → Copper copper w h a b → apart x y a b ≡ apart x y i j → (i < a) ⊎ ((i ≡ a) × (j ≤ b)))
-        → Answer (at i j)
+-- what the run through the copper pixels finds
+data Answer (copper : Mask) (w h x y : ℕ) : Found → Type 0 where
+  no-copper : ((i j : ℕ) → Copper copper w h i j → ⊥) → Answer copper w h x y none
+  nearest-at : (i j : ℕ) → Nearest copper w h x y i j → Answer copper w h x y (at i j)
 
+module _ (copper : Mask) (w h : ℕ) (wide : w ≤ maxSide) (tall : h ≤ maxSide) (x y : ℕ) (across : x < w) (down : y < h) where
   G : List ℕ
   G = tabulate w (λ k. costOf (way copper w h wide tall y down k))
 
@@ -51,7 +49,7 @@ module _ (copper : Mask) (w h : ℕ) (wide : w ≤ maxSide) (tall : h ≤ maxSid
   -- a column with copper has a nearest row
   record Row (i : ℕ) : Type 0 where
     at-row : ℕ
-    best : Nearest copper h i y at-row
+    best : NearestRow copper h i y at-row
 
   row-of : (i j : ℕ) → Copper copper w h i j → Row i
   row-of i j c = go (foot copper h i y down)
@@ -69,14 +67,16 @@ module _ (copper : Mask) (w h : ℕ) (wide : w ≤ maxSide) (tall : h ≤ maxSid
   site : (i j : ℕ) → Copper copper w h i j → Site G i
   site i j c = let r = row-of i j c in row-site copper w h wide tall y down x G costs i (r .at-row) (c .across) (r .best)
 
-  answer : {f : Found} {b : ℕ} → Agree copper w h wide tall y down x G costs w f b → best.Found G w x b → Answer f
+  answer : {f : Found} {b : ℕ} → Agree copper w h wide tall y down x G costs w f b → best.Found G w x b → Answer copper w h x y f
   answer nothing (inl (e, sites)) = no-copper (λ i j c. sites i (c .across) (site i j c))
   answer nothing (inr l) = absurd (omega (arith, l .below))
   answer (some k r m best) (inl (e, sites)) = absurd (omega arith)
   answer (some k r m best) (inr l) =
-      nearest-at k r (record { across = m; down = best .on; metal = best .metal })
-      (λ a b c. omega (arith, here, l .least a (c .across) (site a b c), price-le a b c))
-      (λ a b c e. go a b c e (decLt k a) (decLt a k))
+      nearest-at k r (record {
+        metal = record { across = m; down = best .on; metal = best .metal };
+        least = λ a b c. omega (arith, here, l .least a (c .across) (site a b c), price-le a b c);
+        first = λ a b c e. go a b c e (decLt k a) (decLt a k);
+      })
     where
       here : price G x k ≡ apart x y k r
       here = row-price copper w h wide tall y down x G costs k r m best
@@ -92,7 +92,7 @@ module _ (copper : Mask) (w h : ℕ) (wide : w ≤ maxSide) (tall : h ≤ maxSid
               absurd (omega (arith, closer copper x y h k r b (best .first b s metal), ap (λ (t : ℕ). apart x y t b) z))
           upper z (no s) = omega arith
 
-  pub found : Answer (nearest copper x y w h)
+  found : Answer copper w h x y (nearest copper x y w h)
   unfolding nearest
   found = answer (agree copper w h wide tall y down x G costs w (omega arith)) (best-found G w x (omega arith))
 
@@ -112,64 +112,46 @@ module _ (copper : Mask) (w h : ℕ) (wide : w ≤ maxSide) (tall : h ≤ maxSid
   unfolding exactMap
   dy-is = vectors-dy w h _ _ x y across down
 
-  -- it ends on a copper pixel, than which none is nearer, and of those as near it is the first by column, then row
-  pub record Best (i j : ℕ) : Type 0 where
-    pub metal : Copper copper w h i j
-    pub ends : Ends x y dx dy i j
-    pub least : (a b : ℕ) → Copper copper w h a b → size dx dy ≤ apart x y a b
-    pub first-of-equals : (a b : ℕ) → Copper copper w h a b → apart x y a b ≡ size dx dy → (i < a) ⊎ ((i ≡ a) × (j ≤ b))
-
-  to-pixel : (i j : ℕ) → dx ≡ pos i -ℤ pos x → dy ≡ pos j -ℤ pos y → Ends x y dx dy i j
-  to-pixel i j p q = record { column = rw p (way-ends x i); row = rw q (way-ends y j) }
-
-  -- what the pixel holds: the vector to the best copper pixel, or nothing where there is no copper
-  pub data Held : Type 0 where
-    nearest-copper : (i j : ℕ) → Best i j → unlabelled dx dy ≡ false → Held
-    bare-sheet : ((i j : ℕ) → Copper copper w h i j → ⊥) → unlabelled dx dy ≡ true → Held
-
-  pub held : Held
-  held = go found dx-is dy-is
-    where
-      go : {f : Found} → Answer f → dx ≡ toColumn x f → dy ≡ toRow y f → Held
-      go (no-copper bare) p q = bare-sheet bare (rw (p, q))
-      go (nearest-at i j c least first) p q =
-          let e = to-pixel i j p q in
-          let s = ends-size e in
-          nearest-copper i j
-          (record { metal = c; ends = e; least = λ a b d. omega (arith, s, least a b d); first-of-equals = λ a b d g. first a b d (g ∙ s) })
-          (range-labelled dx dy (and-left (inRange dx) _ (target-range copper w h x y dx dy wide tall across down (record { column = i; row = j; metal = c; ends = e }))))
-
   -- ---- the theorems
 
-  pub ends-on-copper : unlabelled dx dy ≡ false → Target copper w h x y dx dy
-  ends-on-copper l = go held
+  -- the vector is the one that document 01 asks for
+  pub is-exact : Exact copper w h x y dx dy
+  is-exact = go found dx-is dy-is
     where
-      go : Held → Target copper w h x y dx dy
-      go (nearest-copper i j b u) = record { column = i; row = j; metal = b .metal; ends = b .ends }
+      go : {f : Found} → Answer copper w h x y f → dx ≡ toColumn x f → dy ≡ toRow y f → Exact copper w h x y dx dy
+      go (no-copper bare) p q = bare-sheet bare (rw (p, q))
+      go (nearest-at i j n) p q = to-nearest i j n (record { column = rw p (way-ends x i); row = rw q (way-ends y j) })
+
+  pub ends-on-copper : unlabelled dx dy ≡ false → Target copper w h x y dx dy
+  ends-on-copper l = go is-exact
+    where
+      go : Exact copper w h x y dx dy → Target copper w h x y dx dy
+      go (to-nearest i j n e) = record { column = i; row = j; metal = n .metal; ends = e }
       go (bare-sheet bare u) = absurd (true≢false (sym u ∙ l))
 
   pub in-range : unlabelled dx dy ≡ false → inRange dx && inRange dy ≡ true
   in-range l = target-range copper w h x y dx dy wide tall across down (ends-on-copper l)
 
   pub with-copper : (i j : ℕ) → Copper copper w h i j → unlabelled dx dy ≡ false
-  with-copper i j c = go held
+  with-copper i j c = go is-exact
     where
-      go : Held → unlabelled dx dy ≡ false
-      go (nearest-copper a b best u) = u
+      go : Exact copper w h x y dx dy → unlabelled dx dy ≡ false
+      go (to-nearest a b n e) =
+          range-labelled dx dy (and-left (inRange dx) _ (target-range copper w h x y dx dy wide tall across down (record { column = a; row = b; metal = n .metal; ends = e })))
       go (bare-sheet bare u) = absurd (bare i j c)
 
   pub without-copper : ((i j : ℕ) → Copper copper w h i j → ⊥) → unlabelled dx dy ≡ true
-  without-copper empty = go held
+  without-copper empty = go is-exact
     where
-      go : Held → unlabelled dx dy ≡ true
-      go (nearest-copper a b best u) = absurd (empty a b (best .metal))
+      go : Exact copper w h x y dx dy → unlabelled dx dy ≡ true
+      go (to-nearest a b n e) = absurd (empty a b (n .metal))
       go (bare-sheet bare u) = u
 
   pub least : (a b : ℕ) → Copper copper w h a b → size dx dy ≤ apart x y a b
-  least a b c = go held
+  least a b c = go is-exact
     where
-      go : Held → size dx dy ≤ apart x y a b
-      go (nearest-copper i j best u) = best .least a b c
+      go : Exact copper w h x y dx dy → size dx dy ≤ apart x y a b
+      go (to-nearest i j n e) = omega (arith, ends-size e, n .least a b c)
       go (bare-sheet bare u) = absurd (bare a b c)
 
   -- the gate passes only where all copper is above q, and fails only where some is not
@@ -178,3 +160,38 @@ module _ (copper : Mask) (w h : ℕ) (wide : w ≤ maxSide) (tall : h ≤ maxSid
 
   pub gate-fair : (q : ℕ) → unlabelled dx dy ≡ false → passes gate (size dx dy) q ≡ false → NearBy gate copper w h x y q
   gate-fair q l p = failed-near gate (ends-on-copper l) p
+
+-- ---- no other map is exact
+
+-- the nearest copper pixel is one pixel
+one-nearest : {copper : Mask} {w h x y i j a b : ℕ} → Nearest copper w h x y i j → Nearest copper w h x y a b → (i ≡ a) × (j ≡ b)
+one-nearest {copper} {w} {h} {x} {y} {i} {j} {a} {b} p q = go (p .first a b (q .metal) (sym e)) (q .first i j (p .metal) e)
+  where
+    e : apart x y i j ≡ apart x y a b
+    e = omega (arith, p .least a b (q .metal), q .least i j (p .metal))
+
+    go : (i < a) ⊎ ((i ≡ a) × (j ≤ b)) → (a < i) ⊎ ((a ≡ i) × (b ≤ j)) → (i ≡ a) × (j ≡ b)
+    go (inl l) (inl m) = absurd (omega arith)
+    go (inl l) (inr m) = absurd (omega (arith, m .0))
+    go (inr l) (inl m) = absurd (omega (arith, l .0))
+    go (inr l) (inr m) = (l .0, omega (arith, l .1, m .1))
+
+-- the way to a place, and the mark, are one number each
+one-way : (x i : ℕ) (d : ℤ) → pos x +ℤ d ≡ pos i → d ≡ pos i -ℤ pos x
+one-way x i d e = sym (+ℤ-negℤ-cancel d (pos x)) ∙ ap (λ (t : ℤ). t -ℤ pos x) (+ℤ-comm d (pos x) ∙ e)
+
+one-mark : (d : ℤ) → isMark d ≡ true → d ≡ mark
+one-mark (pos n) e = absurd (false≢true e)
+one-mark (negsuc n) e = ap negsuc (eqb-true n 32767 e)
+
+-- a map that is exact at every pixel is the exact map
+pub only-exact : (copper : Mask) (w h : ℕ) → w ≤ maxSide → h ≤ maxSide → (m : List ℤ) → length m ≡ 2 * (h * w)
+    → ((x y : ℕ) → x < w → y < h → Exact copper w h x y (dxAt m (index w x y)) (dyAt m (index w x y))) → m ≡ exactMap copper w h
+unfolding exactMap
+only-exact copper w h wide tall m long exact-at = vectors-is w h _ _ m long (λ x y a b. go (exact-at x y a b) (found copper w h wide tall x y a b))
+  where
+    go : {x y : ℕ} {dx dy : ℤ} {f : Found} → Exact copper w h x y dx dy → Answer copper w h x y f → (dx ≡ toColumn x f) × (dy ≡ toRow y f)
+    go (to-nearest i j n e) (no-copper bare) = absurd (bare i j (n .metal))
+    go {x} {y} {dx} {dy} (to-nearest i j n e) (nearest-at a b k) = let s = one-nearest n k in rw (← s .0, ← s .1) (one-way x i dx (e .column), one-way y j dy (e .row))
+    go {x} {y} {dx} {dy} (bare-sheet bare u) (no-copper empty) = (one-mark dx (and-left (isMark dx) _ u), one-mark dy (and-right (isMark dx) _ u))
+    go (bare-sheet bare u) (nearest-at a b k) = absurd (bare a b (k .metal))

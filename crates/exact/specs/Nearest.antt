@@ -1,18 +1,34 @@
--- The exact map: document 01, "Engines". Every pixel's vector goes to its nearest copper pixel, among equals to the least column, then the least row:
--- the copper pixels are run through by column, then row, and the first of least squared distance is kept.
+-- The exact map: document 01, "Engines". `Exact` says it in document 01's words, pixel by pixel; `exactMap` is the map itself, for which the copper pixels
+-- are run through by column, then row, and the first of least squared distance is kept. It alone is exact at every pixel (`is-exact`, `only-exact` in
+-- proofs/Theorems).
 -- Assumes nothing.
+use mathlib.Core.Path.{_≡_}
+use mathlib.Core.Logic.{_⊎_}
 use mathlib.Core.Bool.{Bool, true, cond, _&&_}
 use mathlib.Core.List.{List, _++_}
-use Prim.Native.Nat.{ℕ}
+use Prim.Native.Nat.{ℕ, _<_, _≤_}
 use lib.Dec.{ltb}
 use lib.IntN.{ℤ, pos, _-ℤ_}
 use lib.ListN.{drop, replicate}
-use Rattle.raster.specs.Distance.{apart}
+use Rattle.raster.specs.Distance.{apart, Copper}
 use Rattle.raster.specs.Gate.{Gate}
 use Rattle.raster.specs.Loop.{ascend}
 use Rattle.raster.specs.Map.{vectors}
 use Rattle.raster.specs.Pixels.{Mask}
-use Rattle.raster.specs.Vector.{mark}
+use Rattle.raster.specs.Vector.{mark, unlabelled, Ends}
+
+-- (i, j) is the nearest copper pixel of (x, y), among equals that of the least column, then the least row
+pub record Nearest (copper : Mask) (w h x y i j : ℕ) : Type 0 where
+  pub metal : Copper copper w h i j
+  pub least : (a b : ℕ) → Copper copper w h a b → apart x y i j ≤ apart x y a b
+  pub first : (a b : ℕ) → Copper copper w h a b → apart x y a b ≡ apart x y i j → (i < a) ⊎ ((i ≡ a) × (j ≤ b))
+
+-- the vector (dx, dy) of (x, y) goes there; without copper on the sheet the pixel is unlabelled
+pub data Exact (copper : Mask) (w h x y : ℕ) (dx dy : ℤ) : Type 0 where
+  to-nearest : (i j : ℕ) → Nearest copper w h x y i j → Ends x y dx dy i j → Exact copper w h x y dx dy
+  bare-sheet : ((i j : ℕ) → Copper copper w h i j → ⊥) → unlabelled dx dy ≡ true → Exact copper w h x y dx dy
+
+-- ---- the map
 
 -- what was found so far: nothing, or the pixel (i, j)
 pub data Found : Type 0 where
@@ -25,9 +41,11 @@ nearer x y i j none = true
 nearer x y i j (at a b) = ltb (apart x y i j) (apart x y a b)
 
 module _ (copper : Mask) (x y : ℕ) where
+  -- a copper pixel that is nearer takes the place of what was found
   abbrev pub visit : (i j : ℕ) → Found → Found
   visit i j f = cond (copper i j && nearer x y i j f) (at i j) f
 
+  -- all pixels of the sheet, by column, then row
   unfoldable pub nearest : (w h : ℕ) → Found
   nearest w h = ascend (λ i. ascend (visit i) h) w none
 
@@ -40,6 +58,7 @@ abbrev pub toRow : (y : ℕ) → Found → ℤ
 toRow y none = mark
 toRow y (at i j) = pos j -ℤ pos y
 
+-- the way there, at every pixel
 unfoldable pub exactMap : (copper : Mask) (w h : ℕ) → List ℤ
 exactMap copper w h = vectors w h (λ x y. toColumn x (nearest copper x y w h)) (λ x y. toRow y (nearest copper x y w h))
 

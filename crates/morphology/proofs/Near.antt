@@ -17,8 +17,8 @@ use Rattle.raster.specs.Pixels.{Mask, index}
 use Rattle.raster.specs.Tests.{and-left, and-right, same}
 use Rattle.raster.specs.Vector.{size}
 use Rattle.raster.specs.VectorLaws.{unlabelled-size, ends-size}
-use Rattle.exact.specs.Nearest.{exactMap}
-use Rattle.exact.proofs.Theorems.{Held, nearest-copper, bare-sheet, held}
+use Rattle.exact.specs.Nearest.{Exact, to-nearest, bare-sheet, exactMap}
+use Rattle.exact.proofs.Theorems.{is-exact}
 use Rattle.morphology.specs.Resize.{near, bareOf, stays}
 
 module _ (copper : Mask) (w h q x y : ℕ) where
@@ -49,12 +49,12 @@ module _ (copper : Mask) (w h q x y : ℕ) where
   -- on the exact map it is the test of the size: the mark's is above every q
   pub size-near : w ≤ maxSide → h ≤ maxSide → x < w → y < h → q ≤ maxQ
       → leb (size vx vy) q ≡ near copper w h q x y
-  size-near wide tall across down small = go (held copper w h wide tall x y across down)
+  size-near wide tall across down small = go (is-exact copper w h wide tall x y across down)
     where
-      go : Held copper w h wide tall x y across down → leb (size vx vy) q ≡ near copper w h q x y
-      go (nearest-copper i j b u) = elim (decLe (size vx vy) q) [
-        | yes l ↦ le-leb _ q l ∙ sym (near-true (record { column = i; row = j; copper = b .metal; within = omega (arith, ends-size (b .ends)) }))
-        | no n ↦ lt-leb _ q (omega arith) ∙ sym (near-false (λ c. omega (arith, c .within, b .least (c .column) (c .row) (c .copper))))
+      go : Exact copper w h x y vx vy → leb (size vx vy) q ≡ near copper w h q x y
+      go (to-nearest i j n e) = elim (decLe (size vx vy) q) [
+        | yes l ↦ le-leb _ q l ∙ sym (near-true (record { column = i; row = j; copper = n .metal; within = omega (arith, ends-size e) }))
+        | no l ↦ lt-leb _ q (omega arith) ∙ sym (near-false (λ c. omega (arith, ends-size e, c .within, n .least (c .column) (c .row) (c .copper))))
       ]
       go (bare-sheet bare u) =
           lt-leb _ q (omega (arith, unlabelled-size vx vy u)) ∙ sym (near-false (λ c. bare (c .column) (c .row) (c .copper)))
