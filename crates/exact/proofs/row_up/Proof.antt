@@ -13,32 +13,12 @@ use Rattle.exact.proofs.Numbers.{zero-bits}
 use Rattle.exact.proofs.Spreading.{SpreadTo, spread-none, spread-more, spread-all}
 use Rattle.exact.proofs.row_up.Statement.{statement}
 use Rattle.exact.proofs.row_up.Tie as tie
-use Rattle.exact.proofs.row_up.Reads as reads
-use Rattle.exact.proofs.row_up.Lts as lts
 
 abbrev Inv-loop : tie.InvT-loop
 Inv-loop ways₀ near₀ base w x₀ ways near x = SpreadTo base w (λ z. isZero (getD ways₀ (base + z) (pos 0))) (λ z v. shorter (getD ways₀ (base + z) (pos 0)) v) ways₀ near₀ x ways near
 
 abbrev μ-loop : tie.MeasureT-loop
 μ-loop ways₀ near₀ base w x₀ ways near x = w - x
-
-loop-holds : tie.Need-loop-holds Inv-loop μ-loop
-loop-holds c = spread-none
-
-add-u : tie.Need-add-u Inv-loop μ-loop
-add-u c = omega arith
-
-mul-u : tie.Need-mul-u Inv-loop μ-loop
-mul-u c = omega arith
-
-slice-copy-out-u : tie.Need-slice-copy-out-u Inv-loop μ-loop
-slice-copy-out-u c = omega arith
-
-mul-step : tie.Need-mul-step Inv-loop μ-loop
-mul-step c = omega arith
-
-slice-copy-out-step : tie.Need-slice-copy-out-step Inv-loop μ-loop
-slice-copy-out-step c = omega arith
 
 -- what is read of `near` and of the ways is what stood there at entry
 near-is : (c : tie.After-step-arg Inv-loop μ-loop) → let l = c .before .before .before in
@@ -60,30 +40,6 @@ step-requires c κs =
     let l = c .before .before .before in
     rw (near-is c) (l .before .pre .1 (l .loop .x) (omega arith))
 
-mul-d : tie.Need-mul-d Inv-loop μ-loop
-mul-d c = omega arith
-
-slice-set-from-d : tie.Need-slice-set-from-d Inv-loop μ-loop
-slice-set-from-d c = omega arith
-
-shorter-of-requires : tie.Need-shorter-of-requires Inv-loop μ-loop
-shorter-of-requires c κs = omega arith
-
-add-t10 : tie.Need-add-t10 Inv-loop μ-loop
-add-t10 c = omega arith
-
-mul-t9 : tie.Need-mul-t9 Inv-loop μ-loop
-mul-t9 c = omega arith
-
-slice-set-from-ways : tie.Need-slice-set-from-ways Inv-loop μ-loop
-slice-set-from-ways c = omega arith
-
-add-x : tie.Need-add-x Inv-loop μ-loop
-add-x c = omega arith
-
-loop-less : tie.Need-loop-less Inv-loop μ-loop
-loop-less c = omega arith
-
 loop-again : tie.Need-loop-again Inv-loop μ-loop
 loop-again c =
     let d = c .before in
@@ -95,37 +51,28 @@ loop-again c =
     let k = rw (u-is u) at (simp (toZ-ofZ, f, u-fits u) at (c .shorter-of .ensures)) in
     simp (toZ-ofZ, f, g) (spread-more (l .loop .inv) (omega arith) (omega arith) (omega arith) e k)
 
-same-length : tie.Need-same-length Inv-loop μ-loop
-same-length c = omega arith
-
-same-length-2 : tie.Need-same-length-2 Inv-loop μ-loop
-same-length-2 c = omega arith
-
-returns : tie.Need-returns Inv-loop μ-loop
-returns c = spread-all (c .before .loop .inv) (omega arith)
-
 pub row-up-spec : {M : Type 1} → statement M
 row-up-spec =
     tie.close
     (tie.spec
     Inv-loop
     μ-loop
-    loop-holds
-    add-u
-    mul-u
-    slice-copy-out-u
-    mul-step
-    slice-copy-out-step
+    (λ c. spread-none)
+    (λ c. omega arith)
+    (λ c. omega arith)
+    (λ c. omega arith)
+    (λ c. omega arith)
+    (λ c. omega arith)
     step-requires
-    mul-d
-    slice-set-from-d
-    shorter-of-requires
-    add-t10
-    mul-t9
-    slice-set-from-ways
-    add-x
-    loop-less
+    (λ c. omega arith)
+    (λ c. omega arith)
+    (λ c κs. omega arith)
+    (λ c. omega arith)
+    (λ c. omega arith)
+    (λ c. omega arith)
+    (λ c. omega arith)
+    (λ c. omega arith)
     loop-again
-    same-length
-    same-length-2
-    returns)
+    (λ c. omega arith)
+    (λ c. omega arith)
+    (λ c. spread-all (c .before .loop .inv) (omega arith)))
