@@ -1,16 +1,16 @@
 -- `exact::rows_down` meets its contract. The invariant: the first y rows hold the ways upwards, and `near` those of the row above row y.
 -- Assumes nothing.
-use mathlib.Core.Path.{_≡_}
+use mathlib.Core.Path.{refl}
 use Prim.Native.Nat.{_+_, _*_, _-_, _<_, _≤_}
 use native.Mathlib.Nat.{mul-le-mul-right}
 use native.Mathlib.Omega.{arith}
 use Rattle.raster.specs.Sheet.{copperOf}
-use Rattle.exact.proofs.Passes.{Sunk, sunk-none, sunk-room, sunk-more}
+use Rattle.exact.proofs.Passes.{Pass, pass-none, pass-room, pass-more, pass-all}
 use Rattle.exact.proofs.rows_down.Statement.{statement}
 use Rattle.exact.proofs.rows_down.Tie as tie
 
 abbrev Inv-loop : tie.InvT-loop
-Inv-loop sheet ways₀ near₀ w h y₀ ways near y = Sunk (copperOf sheet w) w ways₀ near₀ y ways near × (y ≤ h)
+Inv-loop sheet ways₀ near₀ w h y₀ ways near y = Pass w h (λ t. t) (copperOf sheet w) (λ x y v. v) ways₀ near₀ y ways near
 
 abbrev μ-loop : tie.MeasureT-loop
 μ-loop sheet ways₀ near₀ w h y₀ ways near y = h - y
@@ -23,26 +23,23 @@ row c =
     omega (arith, mul-le-mul-right (a .w) below)
 
 loop-holds : tie.Need-loop-holds Inv-loop μ-loop
-loop-holds c = (sunk-none (c .before .pre .1), omega arith)
+loop-holds c = pass-none (c .before .pre .1)
 
 row-down-requires : tie.Need-row-down-requires Inv-loop μ-loop
 row-down-requires c κs =
     let r = row (c .before .before) in
-    let i = c .before .before .before .loop .inv .0 in
-    ((omega arith, (omega (arith, i .held .long), omega (arith, i .near-long))), sunk-room i (omega arith))
+    let i = c .before .before .before .loop .inv in
+    ((omega arith, (omega (arith, i .long), omega (arith, i .near-long))), pass-room i (omega arith))
 
 loop-again : tie.Need-loop-again Inv-loop μ-loop
 unfolding copperOf
 loop-again c =
     let r = c .before .before in
     let l = r .before .before .before .before in
-    (sunk-more (l .loop .inv .0) (r .row-down .ensures), omega arith)
+    pass-more (l .loop .inv) (omega arith) refl refl (λ k a e. e) (λ x e. (refl, λ v. refl)) (r .row-down .ensures)
 
 returns : tie.Need-returns Inv-loop μ-loop
-returns c =
-    let l = c .before in
-    let n : l .loop .y ≡ l .before .before .args .h = omega arith in
-    rw n at (l .loop .inv .0 .held)
+returns c = let l = c .before in pass-all (l .loop .inv) (omega (arith, l .loop .inv .on)) (λ y a. (a, refl))
 
 pub rows-down-spec : {M : Type 1} → statement M
 rows-down-spec =
@@ -56,6 +53,6 @@ rows-down-spec =
     (λ c. omega arith)
     (λ c. omega arith)
     loop-again
-    (λ c. c .before .loop .inv .0 .held .long)
-    (λ c. c .before .loop .inv .0 .near-long)
+    (λ c. c .before .loop .inv .long)
+    (λ c. c .before .loop .inv .near-long)
     returns)

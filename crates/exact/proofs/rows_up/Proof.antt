@@ -1,14 +1,19 @@
 -- `exact::rows_up` meets its contract. The invariant: the rows from y on hold the shorter ways, and `near` the ways downwards of row y.
 -- Assumes nothing.
+use mathlib.Core.Path.{_≡_, ap}
 use Prim.Native.Nat.{_+_, _*_, _-_, _<_, _≤_}
 use native.Mathlib.Nat.{mul-le-mul-right}
 use native.Mathlib.Omega.{arith}
-use Rattle.exact.proofs.Passes.{Risen, risen-none, risen-room, risen-more, risen-all}
+use lib.IntN.{ℤ, pos}
+use lib.ListN.{getD}
+use Rattle.raster.specs.Pixels.{index}
+use Rattle.exact.specs.Ways.{shorter, isZero, metal}
+use Rattle.exact.proofs.Passes.{Pass, pass-none, pass-room, pass-more, pass-all}
 use Rattle.exact.proofs.rows_up.Statement.{statement}
 use Rattle.exact.proofs.rows_up.Tie as tie
 
 abbrev Inv-loop : tie.InvT-loop
-Inv-loop ways₀ near₀ w h y₀ ways near y = Risen w h ways₀ near₀ y ways near
+Inv-loop ways₀ near₀ w h y₀ ways near y = Pass w h (λ t. h - 1 - t) (metal ways₀ w) (λ x y. shorter (getD ways₀ (index w x y) (pos 0))) ways₀ near₀ (h - y) ways near × (y ≤ h)
 
 abbrev μ-loop : tie.MeasureT-loop
 μ-loop ways₀ near₀ w h y₀ ways near y = y
@@ -17,26 +22,26 @@ abbrev μ-loop : tie.MeasureT-loop
 row : (c : tie.In-loop Inv-loop μ-loop) → let a = c .before .before .args in (c .before .loop .y - 1) * a .w + a .w ≤ a .h * a .w
 row c =
     let a = c .before .before .args in
-    let below : c .before .loop .y - 1 < a .h = omega (arith, c .before .loop .inv .on) in
+    let below : c .before .loop .y - 1 < a .h = omega (arith, c .before .loop .inv .1) in
     omega (arith, mul-le-mul-right (a .w) below)
 
 loop-holds : tie.Need-loop-holds Inv-loop μ-loop
-loop-holds c = risen-none (c .pre .1)
+loop-holds c = let e : c .args .h - c .args .h ≡ 0 = omega arith in (rw e (pass-none (c .pre .1)), omega arith)
 
 row-up-requires : tie.Need-row-up-requires Inv-loop μ-loop
 row-up-requires c κs =
     let r = row (c .before .before) in
-    let i = c .before .before .before .loop .inv in
-    ((omega (arith, i .long), omega (arith, i .near-long)), risen-room i (omega arith))
+    let i = c .before .before .before .loop .inv .0 in
+    ((omega (arith, i .long), omega (arith, i .near-long)), pass-room i (omega arith))
 
 loop-again : tie.Need-loop-again Inv-loop μ-loop
 loop-again c =
     let r = c .before .before in
     let l = r .before .before .before .before in
-    risen-more (l .loop .inv) (l .loop .y - 1) (omega arith) (r .row-up .ensures)
+    (pass-more (l .loop .inv .0) (omega arith) (omega arith) (omega arith) (λ k a e. omega arith) (λ x e. (ap isZero e, λ v. ap (λ (u : ℤ). shorter u v) e)) (r .row-up .ensures), omega arith)
 
 returns : tie.Need-returns Inv-loop μ-loop
-returns c = risen-all (c .before .loop .inv) (omega arith)
+returns c = pass-all (c .before .loop .inv .0) (omega arith) (λ y a. (omega arith, omega arith))
 
 pub rows-up-spec : {M : Type 1} → statement M
 rows-up-spec =
@@ -50,6 +55,6 @@ rows-up-spec =
     row-up-requires
     (λ c. omega arith)
     loop-again
-    (λ c. c .before .loop .inv .long)
-    (λ c. c .before .loop .inv .near-long)
+    (λ c. c .before .loop .inv .0 .long)
+    (λ c. c .before .loop .inv .0 .near-long)
     returns)
