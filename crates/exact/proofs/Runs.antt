@@ -7,12 +7,9 @@ use Prim.Native.Nat.{ℕ, _+_, _-_, _<_, _≤_}
 use native.Mathlib.Decide.{decLt, ℕ-discrete}
 use native.Mathlib.Omega.{arith}
 use lib.IntN.{ℤ, pos, _-ℤ_, +ℤ-invr}
-use lib.ListN.{getD}
 use borrow.Author.Tests.{ne-eqb}
 use Rattle.raster.specs.Map.{Inside, dxAt, dyAt, put}
 use Rattle.raster.specs.MapLaws.{put-length, put-dx, put-dy, put-dx-other, put-dy-other}
-use Rattle.envelope.specs.Stack.{holder}
-use Rattle.envelope.proofs.StackLaws.{holder-none, holder-top, holder-under}
 use Rattle.exact.specs.Ways.{across, along, Written}
 
 -- a column below 2,048 is one, not none
@@ -124,42 +121,3 @@ run-join {base} {a} {b} {n} {u} {v} {way} {best} {m} {o} {q} h k later earlier s
   under = λ p i. chain (earlier .under p i) (later .under p (omega arith));
   over = λ p i. chain (earlier .over p (omega arith)) (later .over p i);
 }
-
--- ---- a row by the entries of the stack, from the last to the first
-
--- the pixels from `to` on are written, and those before it are held by the first c entries
-pub record Unstacked (base n : ℕ) (v : ℕ → ℤ) (site start : List ℕ) (count : ℕ) (m : List ℤ) (c to : ℕ) (o : List ℤ) : Type 0 where
-  pub few : c ≤ count
-  pub on : to ≤ n
-  pub done : Written base to n v (holder site start count) m o
-  pub left : (x : ℕ) → x < to → holder site start count x ≡ holder site start c x
-
-module _ {base n : ℕ} {v : ℕ → ℤ} {site start : List ℕ} {count : ℕ} {m : List ℤ} where
-  pub unstack-none : Unstacked base n v site start count m count n m
-  unstack-none = record { few = omega arith; on = omega arith; done = run-none; left = λ x l. refl }
-
-  module _ {c to f : ℕ} {o : List ℤ} (u : Unstacked base n v site start count m c to o) (some : 0 < c) (first : f ≡ getD start (c - 1) 0) where
-    -- the last entry holds no pixel that is left
-    pub unstack-skip : to ≤ f → Unstacked base n v site start count m (c - 1) to o
-    unstack-skip h = record {
-      few = omega (arith, u .few);
-      on = u .on;
-      done = u .done;
-      left = λ x l. u .left x l ∙ holder-under site start c x some (omega arith);
-    }
-
-    -- it holds those from f on
-    pub unstack-run : {s : ℕ} {z : ℤ} {q : List ℤ} → f < to → s ≡ getD site (c - 1) 0 → z ≡ v s → Written base f to (λ b. z) (λ x. s) o q
-        → Unstacked base n v site start count m (c - 1) f q
-    unstack-run h e g w = record {
-      few = omega (arith, u .few);
-      on = omega (arith, u .on);
-      done = run-join (omega arith) (u .on) (u .done) w
-          (λ x i j. (u .left x j ∙ holder-top site start c x some (omega arith) ∙ sym e, rw g));
-      left = λ x l. u .left x (omega arith) ∙ holder-under site start c x some (omega arith);
-    }
-
-  -- no entry is left: the first pixels are unlabelled
-  pub unstack-all : {c to : ℕ} {o q : List ℤ} → Unstacked base n v site start count m c to o → c ≡ 0 → Written base 0 to (λ b. pos 0) (λ x. 65535) o q
-      → Written base 0 n v (holder site start count) m q
-  unstack-all u z w = run-join (omega arith) (u .on) (u .done) w (λ x i j. (u .left x j ∙ rw z (holder-none site start x), refl))

@@ -1,7 +1,7 @@
--- Columns raised: one number by a loop, a run of columns, and a row by the entries of the envelope's stack.
+-- Columns raised: one number by a loop, a run of columns, and two runs that meet.
 -- Assumes nothing.
-use mathlib.Core.Path.{_≡_, refl, sym, subst, _∙_}
-use mathlib.Core.Bool.{Bool, _||_, or-true}
+use mathlib.Core.Path.{_≡_, refl, sym, _∙_}
+use mathlib.Core.Bool.{Bool, false, _||_, or-true}
 use mathlib.Core.List.{List}
 use Prim.Native.Nat.{ℕ, _+_, _-_, _*_, _<_, _≤_}
 use native.Mathlib.Decide.{decLt, ℕ-discrete}
@@ -10,10 +10,8 @@ use native.Mathlib.Omega.{arith}
 use lib.Dec.{ltb}
 use lib.ListN.{length, getD, set, length-set}
 use lib.Seq.{getD-set-same, getD-set-other}
-use borrow.Author.Tests.{lt-ltb, le-ltb, ne-eqb}
-use Rattle.envelope.specs.Stack.{holder}
-use Rattle.envelope.proofs.StackLaws.{holder-none, holder-top, holder-under}
-use Rattle.skeleton.specs.Rebuild.{hits, hitBy, Raised, RowRaised}
+use borrow.Author.Tests.{lt-ltb, le-ltb}
+use Rattle.skeleton.specs.Rebuild.{Raised, RowRaised}
 
 -- ---- one number
 
@@ -88,65 +86,19 @@ module _ {t h from : ℕ} {hit : ℕ → ℕ → Bool} {before : List ℕ} where
         }
   ]
 
--- ---- a row by the entries of the stack, from the last to the first
+-- a run that raises nothing
+pub lift-bare : {t h from to : ℕ} {before : List ℕ} → RowRaised t h from to (λ x k. false) before before
+lift-bare = record { long = refl; here = λ x a b. record { says = λ k e f. refl }; under = λ x l. refl; over = λ x l. refl }
 
--- the columns from `to` on are raised, and those before it are held by the first c entries
-pub record Unraised (t h n : ℕ) (cost site start : List ℕ) (count : ℕ) (before : List ℕ) (c to : ℕ) (after : List ℕ) : Type 0 where
-  pub few : c ≤ count
-  pub on : to ≤ n
-  pub done : RowRaised t h to n (λ x. hitBy cost t x (holder site start count x)) before after
-  pub left : (x : ℕ) → x < to → holder site start count x ≡ holder site start c x
-
-module _ {t h n : ℕ} {cost site start : List ℕ} {count : ℕ} {before : List ℕ} where
-  pub unraised-none : Unraised t h n cost site start count before count n before
-  unraised-none = record { few = omega arith; on = omega arith; done = lift-none; left = λ x l. refl }
-
-  module _ {c to f : ℕ} {o : List ℕ} (u : Unraised t h n cost site start count before c to o) (some : 0 < c) (first : f ≡ getD start (c - 1) 0) where
-    -- the last entry holds no column that is left
-    pub unraised-skip : to ≤ f → Unraised t h n cost site start count before (c - 1) to o
-    unraised-skip l = record {
-      few = omega (arith, u .few);
-      on = u .on;
-      done = u .done;
-      left = λ x a. u .left x a ∙ holder-under site start c x some (omega arith);
-    }
-
-    -- it holds those from f on
-    pub unraised-run : {s g : ℕ} {q : List ℕ} → f < to → s ≡ getD site (c - 1) 0 → s < 2048 → g ≡ getD cost s 0 → RowRaised t h f to (λ x k. hits t x s g k) o q
-        → Unraised t h n cost site start count before (c - 1) f q
-    unraised-run {s} {g} {q} l e small p r = record {
-      few = omega (arith, u .few);
-      on = omega (arith, u .on);
-      done = record {
-        long = r .long ∙ u .done .long;
-        here = λ x a b. elim (decLt x to) [
-          | yes i ↦ rw (← u .done .under x i) (held x a i)
-          | no i ↦ rw (r .over x (omega arith)) (u .done .here x (omega arith) b)
-        ];
-        under = λ x a. r .under x a ∙ u .done .under x (omega arith);
-        over = λ x a. r .over x (omega (arith, u .on)) ∙ u .done .over x a;
-      };
-      left = λ x a. u .left x (omega arith) ∙ holder-under site start c x some (omega arith);
-    }
-      where
-        held : (x : ℕ) → f ≤ x → x < to → Raised t h (hitBy cost t x (holder site start count x)) (getD o x 0) (getD q x 0)
-        held x a i =
-            let w : holder site start count x ≡ s = u .left x i ∙ holder-top site start c x some (omega arith) ∙ sym e in
-            subst (λ (b : ℕ). Raised t h (hitBy cost t x b) (getD o x 0) (getD q x 0)) (sym w)
-            (raised-same (λ k i j. rw (ne-eqb s 65535 (omega arith), ← p)) (r .here x a i))
-
-  -- no entry is left: nothing covers the first columns
-  pub unraised-all : {c to : ℕ} {o : List ℕ} → Unraised t h n cost site start count before c to o → c ≡ 0
-      → RowRaised t h 0 n (λ x. hitBy cost t x (holder site start count x)) before o
-  unraised-all {c} {to} {o} u z = record {
-    long = u .done .long;
-    here = λ x a b. elim (decLt x to) [
-      | yes i ↦
-          let w : holder site start count x ≡ 65535 = u .left x i ∙ rw z (holder-none site start x) in
-          rw (u .done .under x i)
-          (subst (λ (b : ℕ). Raised t h (hitBy cost t x b) (getD before x 0) (getD before x 0)) (sym w) (record { says = λ k e f. refl }))
-      | no i ↦ u .done .here x (omega arith) b
-    ];
-    under = λ x a. absurd (omega arith);
-    over = u .done .over;
-  }
+-- two runs that meet: the later one was raised first, and the earlier one as it should be
+pub lift-join : {t h a b n : ℕ} {hit run : ℕ → ℕ → Bool} {before o after : List ℕ} → a ≤ b → b ≤ n → RowRaised t h b n hit before o → RowRaised t h a b run o after
+    → ((x : ℕ) → a ≤ x → x < b → (k : ℕ) → hit x k ≡ run x k) → RowRaised t h a n hit before after
+lift-join {t} {h} {a} {b} {n} {hit} {run} {before} {o} {after} l m later earlier same = record {
+  long = earlier .long ∙ later .long;
+  here = λ x i j. elim (decLt x b) [
+    | yes e ↦ rw (← later .under x e) (raised-same (λ k p q. same x i e k) (earlier .here x i e))
+    | no e ↦ rw (earlier .over x (omega arith)) (later .here x (omega arith) j)
+  ];
+  under = λ x i. earlier .under x i ∙ later .under x (omega arith);
+  over = λ x i. earlier .over x (omega arith) ∙ later .over x i;
+}

@@ -1,6 +1,6 @@
 -- `exact::write_row` meets its contract. The invariant: the pixels from `to` on are written, and those before it are held by the first c entries.
 -- Assumes nothing.
-use mathlib.Core.Path.{_∙_}
+use mathlib.Core.Path.{refl, sym, _∙_}
 use Prim.Native.Nat.{_-_, _<_}
 use native.Mathlib.Omega.{arith}
 use lib.IntN.{pos}
@@ -8,18 +8,19 @@ use lib.ListN.{getD}
 use mir.Syntax.{w32}
 use mir.Val.{SFits}
 use mir.ValLaws.{toZ-ofZ}
-use Rattle.exact.proofs.Runs.{Unstacked, unstack-none, unstack-skip, unstack-run, unstack-all}
+use Rattle.envelope.specs.Stack.{holder}
+use Rattle.envelope.proofs.StackLaws.{Unstacked, unstack-none, unstack-top, unstack-more, unstack-all}
+use Rattle.exact.specs.Ways.{Written}
+use Rattle.exact.proofs.Runs.{run-none, run-join}
 use Rattle.exact.proofs.write_row.Statement.{statement}
 use Rattle.exact.proofs.write_row.Tie as tie
 
 abbrev Inv-loop : tie.InvT-loop
-Inv-loop map₀ base n ways site start count c₀ to₀ map c to = Unstacked base n (λ b. getD ways b (pos 0)) site start count map₀ c to map
+Inv-loop map₀ base n ways site start count c₀ to₀ map c to =
+    Unstacked n site start count c to × Written base to n (λ b. getD ways b (pos 0)) (holder site start count) map₀ map
 
 abbrev μ-loop : tie.MeasureT-loop
 μ-loop map₀ base n ways site start count c₀ to₀ map c to = c
-
-loop-holds : tie.Need-loop-holds Inv-loop μ-loop
-loop-holds c = unstack-none
 
 -- the site of the entry lies on the row
 on-row : (c : tie.After-place2 Inv-loop μ-loop) → c .place2 .result < c .before .before .before .before .before .before .before .args .n
@@ -41,14 +42,22 @@ loop-again c =
     let v = c .before .before in
     let p = v .before .before in
     let f = p .before .before in
+    let i = f .before .before .loop .inv in
     let e = toZ-ofZ w32 _ (record { sfits = v .way-at .ok }) ∙ v .way-at .ensures .0 in
-    unstack-run (f .before .before .loop .inv) (omega arith) (f .place .ensures) (omega arith) (p .place2 .ensures) e (c .before .write-run .ensures)
+    let top = unstack-top (i .0) (omega arith) (f .place .ensures) in (
+      unstack-more (i .0) (omega arith) (f .place .ensures) (omega arith) (omega arith),
+      run-join (omega arith) (i .0 .on) (i .1) (c .before .write-run .ensures) (λ x a b. (top x a b ∙ sym (p .place2 .ensures), rw e)),
+    )
 
 loop-again-2 : tie.Need-loop-again-2 Inv-loop μ-loop
-loop-again-2 c = unstack-skip (c .before .before .before .loop .inv) (omega arith) (c .before .place .ensures) (omega arith)
+loop-again-2 c =
+    let i = c .before .before .before .loop .inv in
+    (unstack-more (i .0) (omega arith) (c .before .place .ensures) (omega arith) (omega arith), i .1)
 
 returns : tie.Need-returns Inv-loop μ-loop
-returns c = unstack-all (c .before .before .before .before .loop .inv) (omega arith) (c .before .clear-run .ensures)
+returns c =
+    let i = c .before .before .before .before .loop .inv in
+    run-join (omega arith) (i .0 .on) (i .1) (c .before .clear-run .ensures) (λ x a b. (unstack-all (i .0) (omega arith) x b, refl))
 
 pub write-row-spec : {M : Type 1} → statement M
 write-row-spec =
@@ -56,7 +65,7 @@ write-row-spec =
     (tie.spec
     Inv-loop
     μ-loop
-    loop-holds
+    (λ c. (unstack-none, run-none))
     (λ c. omega arith)
     (λ c κs. omega arith)
     (λ c κs. omega arith)
