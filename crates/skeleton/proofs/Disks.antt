@@ -45,20 +45,20 @@ module _ (n : ℕ) (small : n ≤ 400) (x y p q : ℕ) where
   beyond : (corner : Bool) (h k zx zy : ℕ) → n ≤ h * h + k * k → beside corner h k ≤ apart x y zx zy → g corner n ≤ apart x y zx zy
   beyond corner h k zx zy out l = omega (arith, g-least corner n small h k out)
 
-  pub at-side : gap x p ≡ 1 → y ≡ q → (zx zy : ℕ) → n ≤ apart p q zx zy → g false n ≤ apart x y zx zy
+  at-side : gap x p ≡ 1 → y ≡ q → (zx zy : ℕ) → n ≤ apart p q zx zy → g false n ≤ apart x y zx zy
   unfolding apart
   at-side e f zx zy out = beyond false (gap p zx) (gap q zy) zx zy out (rw f (omega (arith, square-le (one-off x p zx e))))
 
-  pub at-end : x ≡ p → gap y q ≡ 1 → (zx zy : ℕ) → n ≤ apart p q zx zy → g false n ≤ apart x y zx zy
+  at-end : x ≡ p → gap y q ≡ 1 → (zx zy : ℕ) → n ≤ apart p q zx zy → g false n ≤ apart x y zx zy
   unfolding apart
   at-end e f zx zy out = beyond false (gap q zy) (gap p zx) zx zy (omega arith) (rw e (omega (arith, square-le (one-off y q zy f))))
 
-  pub at-corner : gap x p ≡ 1 → gap y q ≡ 1 → (zx zy : ℕ) → n ≤ apart p q zx zy → g true n ≤ apart x y zx zy
+  at-corner : gap x p ≡ 1 → gap y q ≡ 1 → (zx zy : ℕ) → n ≤ apart p q zx zy → g true n ≤ apart x y zx zy
   unfolding apart
   at-corner e f zx zy out = beyond true (gap p zx) (gap q zy) zx zy out (omega (arith, square-le (one-off x p zx e), square-le (one-off y q zy f)))
 
 -- the disk of (x, y) lies in that of a larger neighbour
-pub record Inside (m : List ℤ) (w h x y : ℕ) : Type 0 where
+pub record InLarger (m : List ℤ) (w h x y : ℕ) : Type 0 where
   pub column : ℕ
   pub row : ℕ
   pub across : column < w
@@ -112,7 +112,7 @@ module _ (m : List ℤ) (w h x y a b : ℕ) (small-a : a < 3) (small-b : b < 3) 
         table = eqb-true (g (not (eqb a 1) && not (eqb b 1)) n) s (and-right (leb 1 n && leb n 400) _ back);
       }
 
-  pub taken-inside : takenBy m w h x y a b ≡ true → Inside m w h x y
+  pub taken-inside : takenBy m w h x y a b ≡ true → InLarger m w h x y
   taken-inside e = record {
     column = x + a - 1;
     row = y + b - 1;

@@ -23,10 +23,10 @@ use Rattle.exact.specs.Nearest.{exactMap}
 use Rattle.exact.proofs.Theorems.{least, with-copper, ends-on-copper}
 use Rattle.raster.specs.VectorLaws.{ends-size}
 use Rattle.skeleton.specs.Skeleton.{removed, kept, skeletonOf, covered, rebuilt}
-use Rattle.skeleton.proofs.Disks.{Inside, taken-inside}
+use Rattle.skeleton.proofs.Disks.{InLarger, taken-inside}
 
 -- a pixel that is removed has a larger neighbour whose disk holds its own
-removed-inside : (m : List ℤ) (w h x y : ℕ) → removed m w h x y ≡ true → Inside m w h x y
+removed-inside : (m : List ℤ) (w h x y : ℕ) → removed m w h x y ≡ true → InLarger m w h x y
 unfolding removed
 removed-inside m w h x y e =
     let a = some-found 3 _ e in
@@ -56,7 +56,7 @@ module _ (copper : Mask) (w h : ℕ) (wide : w ≤ maxSide) (tall : h ≤ maxSid
         ]
 
     -- a kept pixel whose disk holds that of (x, y)
-    pub record Held-by (x y : ℕ) : Type 0 where
+    pub record HeldBy (x y : ℕ) : Type 0 where
       pub column : ℕ
       pub row : ℕ
       pub across : column < w
@@ -64,7 +64,7 @@ module _ (copper : Mask) (w h : ℕ) (wide : w ≤ maxSide) (tall : h ≤ maxSid
       pub stays : kept m w h column row ≡ true
       pub disk : (zx zy : ℕ) → apart x y zx zy < sizeAt m (index w x y) → apart column row zx zy < sizeAt m (index w column row)
 
-    itself : (x y : ℕ) → x < w → y < h → 0 < sizeAt m (index w x y) → removed m w h x y ≡ false → Held-by x y
+    itself : (x y : ℕ) → x < w → y < h → 0 < sizeAt m (index w x y) → removed m w h x y ≡ false → HeldBy x y
     itself x y a b s r = record {
       column = x;
       row = y;
@@ -75,16 +75,16 @@ module _ (copper : Mask) (w h : ℕ) (wide : w ≤ maxSide) (tall : h ≤ maxSid
     }
 
     -- sizes grow from a removed pixel to the neighbour that takes it off, and pass 400 after at most as many steps as `left`
-    climb : (left x y : ℕ) → x < w → y < h → 0 < sizeAt m (index w x y) → 401 ≤ sizeAt m (index w x y) + left → Held-by x y
+    climb : (left x y : ℕ) → x < w → y < h → 0 < sizeAt m (index w x y) → 401 ≤ sizeAt m (index w x y) + left → HeldBy x y
     climb zero x y a b s l = go (removed m w h x y) refl
       where
-        go : (t : Bool) → removed m w h x y ≡ t → Held-by x y
+        go : (t : Bool) → removed m w h x y ≡ t → HeldBy x y
         go true e = let i = removed-inside m w h x y e in absurd (omega (arith, i .larger, i .small))
         go false e = itself x y a b s e
     climb (suc left) x y a b s l =
         go (removed m w h x y) refl (λ i. climb left (i .column) (i .row) (i .across) (i .down) (omega (arith, i .larger)) (omega (arith, i .larger)))
       where
-        go : (t : Bool) → removed m w h x y ≡ t → ((i : Inside m w h x y) → Held-by (i .column) (i .row)) → Held-by x y
+        go : (t : Bool) → removed m w h x y ≡ t → ((i : InLarger m w h x y) → HeldBy (i .column) (i .row)) → HeldBy x y
         go true e up =
             let i = removed-inside m w h x y e in
             let k = up i in
@@ -92,7 +92,7 @@ module _ (copper : Mask) (w h : ℕ) (wide : w ≤ maxSide) (tall : h ≤ maxSid
         go false e up = itself x y a b s e
 
     -- the disk of every bare pixel lies in that of a kept one
-    pub kept-disk : (x y : ℕ) → x < w → y < h → copper x y ≡ false → Held-by x y
+    pub kept-disk : (x y : ℕ) → x < w → y < h → copper x y ≡ false → HeldBy x y
     kept-disk x y a b e = climb 401 x y a b (bare-size x y a b e) (omega arith)
 
     -- ---- the sheet rebuilt from the skeleton
