@@ -2,7 +2,6 @@
 pub mod Outside
 pub mod Disks
 pub mod Theorems
-pub mod Table
 pub mod Tables
 pub mod Rows
 pub mod Bands
