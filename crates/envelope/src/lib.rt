@@ -37,8 +37,8 @@ pub fn place(s: &[u16], i: usize) -> usize
     s[i] as usize
 }
 
-// A cost.
-fn cost_at(s: &[u32], i: usize) -> usize
+// The i-th cost.
+pub fn cost_at(s: &[u32], i: usize) -> usize
     requires { ⌜ i < length (now s) ⌝ }
     ensures { λ r. ⌜ (r ≡ getD (now (s .entry)) i 0) × (r < 4294967296) ⌝ }
 {

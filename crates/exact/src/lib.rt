@@ -135,7 +135,7 @@ fn cost_of(v: i32) -> u32
     m * m
 }
 
-// A way.
+// The i-th way, in 32 bits.
 fn way_at(ways: &[i16], i: usize) -> i32
     requires { ⌜ i < length (now ways) ⌝ }
     ensures { λ r. ⌜ (r ≡ getD (now (ways .entry)) i (pos 0)) × Short r ⌝ }
@@ -428,7 +428,7 @@ fn zero(scratch: &mut [i16], n: usize)
     }
 }
 
-// The exact map of a sheet of w × h pixels. Scratch is left as the paper asks: its first w × h numbers at 0.
+// The exact map of a sheet of w × h pixels. Scratch is left as document 01 asks: its first w × h numbers at 0.
 pub fn exact(sheet: &[u8], map: &mut [i16], scratch: &mut [i16], w: usize, h: usize)
     requires { ⌜ (w ≤ 2048) × (h ≤ 2048) ⌝ }
     requires { ⌜ (length (now sheet) ≡ h * w) × ((length (now map) ≡ 2 * (h * w)) × (h * w ≤ length (now scratch))) ⌝ }

@@ -21,7 +21,7 @@ use Rattle.raster.specs.Tests.{and-left, and-right, same}
 use Rattle.envelope.specs.Best.{priceOf, price, Site, bestSite}
 use Rattle.envelope.specs.BestLaws.{Least, best-found}
 use Rattle.skeleton.specs.Skeleton.{covers}
-use Rattle.skeleton.specs.Rebuild.{rowOf, line, costOf, Priced, Costs, hitBy}
+use Rattle.skeleton.specs.Passes.{rowOf, line, costOf, Priced, Costs, hitBy}
 
 -- ---- what a pixel costs
 

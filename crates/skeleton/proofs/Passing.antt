@@ -21,7 +21,7 @@ use Rattle.raster.specs.Tests.{same}
 use Rattle.envelope.specs.Stack.{holder, Built}
 use Rattle.skeleton.specs.Skeleton.{covers, covered, rebuilt}
 use Rattle.skeleton.specs.Rows.{RowWritten}
-use Rattle.skeleton.specs.Rebuild.{rowOf, line, Priced, hitBy, RowRaised, Passed}
+use Rattle.skeleton.specs.Passes.{rowOf, line, Priced, hitBy, RowRaised, Passed}
 use Rattle.skeleton.proofs.Rows.{row-other}
 use Rattle.skeleton.proofs.Raising.{raised-same}
 use Rattle.skeleton.proofs.Covering.{hit-line, turns-apart}

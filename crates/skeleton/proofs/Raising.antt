@@ -11,7 +11,7 @@ use lib.Dec.{ltb}
 use lib.ListN.{length, getD, set, length-set}
 use lib.Seq.{getD-set-same, getD-set-other}
 use borrow.Author.Tests.{lt-ltb, le-ltb}
-use Rattle.skeleton.specs.Rebuild.{Raised, RowRaised}
+use Rattle.skeleton.specs.Passes.{Raised, RowRaised}
 
 -- ---- one number
 

@@ -2,4 +2,4 @@ pub mod Table
 pub mod Skeleton
 pub mod Rows
 pub mod Bands
-pub mod Rebuild
+pub mod Passes

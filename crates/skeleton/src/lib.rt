@@ -11,7 +11,7 @@ ghost use Rattle.envelope.specs.Stack.{Entries, holder};
 ghost use Rattle.skeleton.specs.Skeleton.{kept, skeletonOf, rebuilt};
 ghost use Rattle.skeleton.specs.Rows.{RowWritten};
 ghost use Rattle.skeleton.specs.Bands.{Listed, counted, Framed, Blank, Measured, Band, keptIn};
-ghost use Rattle.skeleton.specs.Rebuild.{rowOf, line, costOf, Priced, Costs, hits, hitBy, Raised, RowRaised, Passed};
+ghost use Rattle.skeleton.specs.Passes.{rowOf, line, costOf, Priced, Costs, hits, hitBy, Raised, RowRaised, Passed};
 
 // g4(n) at place n − 1: the least squared distance from a side neighbour of a place outside the disk of size n.
 const G4: [u16; 400] = [
@@ -1054,14 +1054,6 @@ fn price_at(x: usize, s: usize, g: usize) -> usize
     d * d + g
 }
 
-// A cost.
-fn cost_at(s: &[u32], i: usize) -> usize
-    requires { ⌜ i < length (now s) ⌝ }
-    ensures { λ r. ⌜ r ≡ getD (now (s .entry)) i 0 ⌝ }
-{
-    s[i] as usize
-}
-
 // The later of two rows.
 fn later(a: usize, b: usize) -> usize
     ensures { λ r. ⌜ r ≡ b + (a - b) ⌝ }
@@ -1124,7 +1116,7 @@ fn raise_row(
         let from = envelope::place(start, c);
         if from < to {
             let s = envelope::place(site, c);
-            raise_run(reach, from, to, t, h, s, cost_at(cost, s));
+            raise_run(reach, from, to, t, h, s, envelope::cost_at(cost, s));
             to = from;
         }
     }

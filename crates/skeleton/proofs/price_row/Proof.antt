@@ -4,7 +4,7 @@ use mathlib.Core.Path.{_≡_, refl}
 use Prim.Native.Nat.{_-_, _≤_}
 use native.Mathlib.Omega.{arith}
 use lib.ListN.{length, length-set}
-use Rattle.skeleton.specs.Rebuild.{Priced}
+use Rattle.skeleton.specs.Passes.{Priced}
 use Rattle.skeleton.proofs.Covering.{priced-none, priced-more}
 use Rattle.skeleton.proofs.price_row.Statement.{statement}
 use Rattle.skeleton.proofs.price_row.Tie as tie

@@ -6,7 +6,7 @@ use borrow.Author.Tests.{ne-eqb}
 use Rattle.envelope.specs.Best.{Site}
 use Rattle.envelope.specs.Stack.{holder}
 use Rattle.envelope.proofs.StackLaws.{Unstacked, unstack-none, unstack-top, unstack-more, unstack-all}
-use Rattle.skeleton.specs.Rebuild.{hitBy, RowRaised}
+use Rattle.skeleton.specs.Passes.{hitBy, RowRaised}
 use Rattle.skeleton.proofs.Raising.{lift-none, lift-bare, lift-join}
 use Rattle.skeleton.proofs.raise_row.Statement.{statement}
 use Rattle.skeleton.proofs.raise_row.Tie as tie
@@ -42,7 +42,7 @@ raise-run-requires c κs =
     let l = turn (p .before) in
     let s = begin l in
     let g = s .pre .1 .1 .1 (p .place2 .result) (on-row p) (real p) in
-    omega (arith, on-row p, c .cost-at .ensures, l .before .loop .inv .0 .on, l .before .loop .inv .1 .long)
+    omega (arith, on-row p, c .cost-at .ensures .0, l .before .loop .inv .0 .on, l .before .loop .inv .1 .long)
 
 loop-again : tie.Need-loop-again Inv-loop μ-loop
 loop-again c =
@@ -55,7 +55,7 @@ loop-again c =
     let site = ne-eqb (p .place2 .result) 65535 (omega (arith, on-row p, begin l .pre .0)) in
     let top = unstack-top (i .0) (omega arith) (f .place .ensures) in (
       unstack-more (i .0) (omega arith) (f .place .ensures) (omega arith) (omega arith),
-      lift-join (omega arith) (i .0 .on) (i .1) (r .raise-run .ensures) (λ x a b k. rw (top x a b, ← p .place2 .ensures, site, ← g .cost-at .ensures)),
+      lift-join (omega arith) (i .0 .on) (i .1) (r .raise-run .ensures) (λ x a b k. rw (top x a b, ← p .place2 .ensures, site, ← g .cost-at .ensures .0)),
     )
 
 loop-again-2 : tie.Need-loop-again-2 Inv-loop μ-loop

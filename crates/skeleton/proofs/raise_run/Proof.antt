@@ -2,7 +2,7 @@
 -- Assumes nothing.
 use Prim.Native.Nat.{_-_, _≤_, _<_}
 use native.Mathlib.Omega.{arith}
-use Rattle.skeleton.specs.Rebuild.{hits, RowRaised}
+use Rattle.skeleton.specs.Passes.{hits, RowRaised}
 use Rattle.skeleton.proofs.Raising.{raised-same, lift-none, lift-more, lift-end}
 use Rattle.skeleton.proofs.raise_run.Statement.{statement}
 use Rattle.skeleton.proofs.raise_run.Tie as tie

@@ -1,4 +1,4 @@
--- What the code works out on the way to the rebuilt sheet: how far each column of a pass over the rows is covered.
+-- What the functions of a pass over the rows promise, on the way to the rebuilt sheet (`rebuilt`, in Skeleton): how far each column is covered.
 -- Assumes nothing.
 use mathlib.Core.Path.{_≡_}
 use mathlib.Core.Bool.{Bool, false, cond, _||_}
