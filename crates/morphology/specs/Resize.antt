@@ -25,6 +25,7 @@ grows = near
 abbrev pub stays : (copper : Mask) (w h q : ℕ) → Mask
 stays copper w h q x y = copper x y && not (near (bareOf copper) w h q x y)
 
+-- the sheets that expand and shrink leave
 unfoldable pub expanded : (w h q : ℕ) → List ℕ → List ℕ
 expanded w h q s = pixels w h (λ x y. cond (grows (copperOf s w) w h q x y) 1 0)
 

@@ -1,5 +1,5 @@
--- Disks, document 01's word for the pixels at squared distance below a pixel's size: that of a pixel which a neighbour takes off lies in the neighbour's,
--- and the neighbour's size is larger.
+-- Disks, document 002's word: the pixels at squared distance below a pixel's size. That of a pixel which a neighbour takes off lies in the neighbour's, and
+-- the neighbour's size is larger.
 -- Assumes nothing.
 use mathlib.Core.Path.{_≡_, refl}
 use mathlib.Core.Logic.{_⊎_, inl, inr, ⊎-elim}

@@ -27,6 +27,7 @@ module _ (m : List ℤ) (w h : ℕ) where
       (not (eqb a 1 && eqb b 1) && (within w (x + a) && within h (y + b)))
       && takes (not (eqb a 1) && not (eqb b 1)) (sizeAt m (index w (x + a - 1) (y + b - 1))) (sizeAt m (index w x y))
 
+  -- some neighbour takes it off
   unfoldable pub removed : Mask
   removed x y = some 3 (λ a. some 3 (λ b. takenBy x y a b))
 
@@ -34,6 +35,7 @@ module _ (m : List ℤ) (w h : ℕ) where
   abbrev pub kept : Mask
   kept x y = (not (unlabelledAt m (index w x y)) && not (eqb (sizeAt m (index w x y)) 0)) && not (removed x y)
 
+  -- what skeleton writes
   unfoldable pub skeletonOf : List ℕ
   skeletonOf = pixels w h (λ x y. cond (kept x y) 1 0)
 
@@ -42,8 +44,10 @@ module _ (m : List ℤ) (w h : ℕ) where
   covers marks x y i j =
       (copperOf marks w i j && not (unlabelledAt m (index w i j))) && ltb (apart x y i j) (sizeAt m (index w i j))
 
+  -- some marked pixel does
   unfoldable pub covered : (marks : List ℕ) → Mask
   covered marks x y = some w (λ i. some h (λ j. covers marks x y i j))
 
+  -- what rebuild writes
   unfoldable pub rebuilt : (marks : List ℕ) → List ℕ
   rebuilt marks = pixels w h (λ x y. cond (covered marks x y) 1 0)

@@ -1,5 +1,6 @@
--- g4 and g8: document 01, "Skeleton". The least squared distance that a place outside the disk of size n around a pixel has from the pixel's side
--- (corner) neighbour. `g` looks for it among the places up to 20 steps off; `Rule` says it of all whole h, k, and `g-rule` (proofs/Outside) that g keeps it.
+-- g4 and g8: document 01, "Skeleton". A place at squared distance n or more from a pixel is outside its disk of size n; g(n) is the least squared distance
+-- of such a place from the pixel's side (corner) neighbour. `g` looks among the places up to 20 steps off; `Rule` says it of all whole h, k, and `g-rule`
+-- (proofs/Outside) that g keeps it.
 -- Assumes nothing.
 use mathlib.Core.Path.{_≡_}
 use mathlib.Core.Bool.{Bool, cond}
