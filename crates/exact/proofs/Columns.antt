@@ -20,7 +20,7 @@ use Rattle.raster.specs.VectorLaws.{mark-abs, way-abs}
 use Rattle.envelope.specs.Best.{priceOf, price, Site, better, bestSite}
 use Rattle.envelope.specs.BestLaws.{better-none, better-first, better-new, better-old}
 use Rattle.exact.specs.Nearest.{Found, none, at, nearer, visit}
-use Rattle.exact.specs.Ways.{up, down, shorter, costOf}
+use Rattle.exact.specs.Ways.{wayOf, costOf}
 use Rattle.exact.proofs.Foot.{NearestRow, Foot, row, no-row, same-row, foot}
 use Rattle.exact.proofs.Search.{no-copper, column-search}
 
@@ -32,19 +32,24 @@ way-cost y r h tall a b = go (isMark (pos r -ℤ pos y)) refl
     go true e = absurd (omega (arith, mark-abs (pos r -ℤ pos y) e, way-abs y r, gap-below y r h a b))
     go false e = rw (way-abs y r)
 
-module _ (copper : Mask) (w h : ℕ) (wide : w ≤ maxSide) (tall : h ≤ maxSide) (y : ℕ) (inside : y < h) where
-  -- the way of column k
-  abbrev pub way : ℕ → ℤ
-  way k = shorter (up copper k y) (down copper h k y)
+-- what was found in the first n columns, and their best site
+pub data Agree (copper : Mask) (h y n : ℕ) : Found → ℕ → Type 0 where
+  nothing : Agree copper h y n none 65535
+  some : (k r : ℕ) → k < n → NearestRow copper h k y r → Agree copper h y n (at k r) k
 
-  pub way-row : (k r : ℕ) → NearestRow copper h k y r → way k ≡ pos r -ℤ pos y
+longer : {copper : Mask} {h y n : ℕ} {f : Found} {b : ℕ} → Agree copper h y n f b → Agree copper h y (suc n) f b
+longer nothing = nothing
+longer (some k r l best) = some k r (omega arith) best
+
+module _ (copper : Mask) (w h : ℕ) (wide : w ≤ maxSide) (tall : h ≤ maxSide) (y : ℕ) (inside : y < h) where
+  pub way-row : (k r : ℕ) → NearestRow copper h k y r → wayOf copper h k y ≡ pos r -ℤ pos y
   way-row k r best = go (foot copper h k y inside)
     where
       go : {v : ℤ} → Foot copper h k y v → v ≡ pos r -ℤ pos y
       go (row s other) = ap (λ (t : ℕ). pos t -ℤ pos y) (same-row copper h k y s r other best)
       go (no-row bare) = absurd (true≢false (sym (best .metal) ∙ bare r (best .on)))
 
-  module _ (x : ℕ) (G : List ℕ) (costs : (k : ℕ) → k < w → getD G k 0 ≡ costOf (way k)) where
+  module _ (x : ℕ) (G : List ℕ) (costs : (k : ℕ) → k < w → getD G k 0 ≡ costOf (wayOf copper h k y)) where
     row-cost : (k r : ℕ) → k < w → NearestRow copper h k y r → getD G k 0 ≡ gap y r * gap y r
     row-cost k r l best = costs k l ∙ ap costOf (way-row k r best) ∙ way-cost y r h tall inside (best .on)
 
@@ -55,16 +60,7 @@ module _ (copper : Mask) (w h : ℕ) (wide : w ≤ maxSide) (tall : h ≤ maxSid
     unfolding priceOf apart
     row-price k r l best = rw (row-cost k r l best)
 
-    -- what was found in the first n columns, and their best site
-    pub data Agree (n : ℕ) : Found → ℕ → Type 0 where
-      nothing : Agree n none 65535
-      some : (k r : ℕ) → k < n → NearestRow copper h k y r → Agree n (at k r) k
-
-    longer : {n : ℕ} {f : Found} {b : ℕ} → Agree n f b → Agree (suc n) f b
-    longer nothing = nothing
-    longer (some k r l best) = some k r (omega arith) best
-
-    with-row : (n : ℕ) → n < w → (r : ℕ) → NearestRow copper h n y r → {f : Found} {b : ℕ} → Agree n f b → Agree (suc n) (cond (nearer x y n r f) (at n r) f) (better G x b n)
+    with-row : (n : ℕ) → n < w → (r : ℕ) → NearestRow copper h n y r → {f : Found} {b : ℕ} → Agree copper h y n f b → Agree copper h y (suc n) (cond (nearer x y n r f) (at n r) f) (better G x b n)
     with-row n l r best nothing = rw (better-first G x 65535 n (row-site n r l best) refl) (some n r (omega arith) best)
     with-row n l r best (some k s m other) = go (ltb (apart x y n r) (apart x y k s)) refl
       where
@@ -77,16 +73,16 @@ module _ (copper : Mask) (w h : ℕ) (wide : w ≤ maxSide) (tall : h ≤ maxSid
         there : price G x k ≡ apart x y k s
         there = row-price k s (omega arith) other
 
-        go : (t : Bool) → ltb (apart x y n r) (apart x y k s) ≡ t → Agree (suc n) (cond t (at n r) (at k s)) (better G x k n)
+        go : (t : Bool) → ltb (apart x y n r) (apart x y k s) ≡ t → Agree copper h y (suc n) (cond t (at n r) (at k s)) (better G x k n)
         go true e = rw (better-new G x k n site (omega (arith, here, there, ltb-true (apart x y n r) (apart x y k s) e))) (some n r (omega arith) best)
         go false e =
             rw (better-old G x k n site (omega arith) (omega (arith, here, there, ltb-false (apart x y n r) (apart x y k s) e))) (some k s (omega arith) other)
 
-    pub agree : (n : ℕ) → n ≤ w → Agree n (ascend (λ i. ascend (visit copper x y i) h) n none) (bestSite G n x)
+    pub agree : (n : ℕ) → n ≤ w → Agree copper h y n (ascend (λ i. ascend (visit copper x y i) h) n none) (bestSite G n x)
     unfolding ascend bestSite
     agree zero l = nothing
     agree (suc n) l = go (agree n (omega arith)) (costs n (omega arith)) (foot copper h n y inside)
       where
-        go : {f : Found} {b : ℕ} {v : ℤ} → Agree n f b → getD G n 0 ≡ costOf v → Foot copper h n y v → Agree (suc n) (ascend (visit copper x y n) h f) (better G x b n)
+        go : {f : Found} {b : ℕ} {v : ℤ} → Agree copper h y n f b → getD G n 0 ≡ costOf v → Foot copper h n y v → Agree copper h y (suc n) (ascend (visit copper x y n) h f) (better G x b n)
         go {f} {b} a c (row r best) = rw (column-search copper x y h n r best f) (with-row n (omega arith) r best a)
         go {f} {b} a c (no-row bare) = rw (no-copper copper x y h n bare h (omega arith) f, better-none G x b n (omega (arith, c))) (longer a)

@@ -13,7 +13,7 @@ use Rattle.raster.specs.Pixels.{Mask}
 use Rattle.raster.specs.Tests.{cond-ind}
 use Rattle.raster.specs.Vector.{mark}
 use Rattle.raster.specs.VectorLaws.{way-back, way-on}
-use Rattle.exact.specs.Ways.{up, down, shorter}
+use Rattle.exact.specs.Ways.{shorter, wayOf}
 use Rattle.exact.proofs.Back.{Back, found, nothing, back}
 
 -- r is the row of the nearest copper of column i from row y, among equals the least row
@@ -119,5 +119,5 @@ module _ (copper : Mask) (h i y : ℕ) (inside : y < h) where
       subst (Foot copper h i y) (sym (way-on y m)) (row (y + m) (nearest-down m d (λ j p q. absurd (bare q (none j p)))))
   both (nothing none) (nothing rest) = no-row (λ j l. elim (decLe j y) [ yes q ↦ none j q | no q ↦ down-bare rest j (omega arith) l ])
 
-  pub foot : Foot copper h i y (shorter (up copper i y) (down copper h i y))
+  pub foot : Foot copper h i y (wayOf copper h i y)
   foot = both (back (copper i) y) (back (λ t. copper i (h - 1 - t)) (h - 1 - y))

@@ -16,7 +16,7 @@ use lib.Signed.{mag}
 use borrow.Author.Tests.{ne-eqb}
 use Rattle.raster.specs.Pixels.{Mask, index}
 use Rattle.raster.specs.PixelsLaws.{index-inside}
-use Rattle.exact.specs.Ways.{farther, far, up, down, shorter, Room, isZero, metal, shortened, Spread, Held}
+use Rattle.exact.specs.Ways.{farther, far, up, shorter, wayOf, Room, isZero, metal, shortened, Spread, Held}
 
 -- ---- a line
 
@@ -108,7 +108,7 @@ module _ {w h : ℕ} {r : ℕ → ℕ} {copper : Mask} {make : (x y : ℕ) → �
 -- ---- both
 
 pub both-passes : (copper : Mask) {w h : ℕ} {m n o : List ℤ} → Held w h (up copper) m n → Held w h (shortened n w h) n o
-    → Held w h (λ x y. shorter (up copper x y) (down copper h x y)) m o
+    → Held w h (wayOf copper h) m o
 both-passes copper {w} {h} {m} {n} {o} r s = record {
   long = s .long ∙ r .long;
   at = λ x y a b. s .at x y a b ∙ ap₂ shorter (r .at x y a b) (far-same _ _ (h - 1 - y) (λ j l. metal-is x (h - 1 - j) a (omega arith)));

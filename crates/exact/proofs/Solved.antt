@@ -12,18 +12,18 @@ use Rattle.raster.specs.MapLaws.{vectors-is}
 use Rattle.raster.specs.Pixels.{Mask, index}
 use Rattle.raster.specs.PixelsLaws.{tabulate-at}
 use Rattle.exact.specs.Nearest.{Found, nearest, toColumn, toRow, exactMap}
-use Rattle.exact.specs.Ways.{up, down, shorter, costOf, wayAt, rowCosts, across, along, Solved}
-use Rattle.exact.proofs.Columns.{way, way-row, Agree, nothing, some, agree}
+use Rattle.exact.specs.Ways.{wayOf, costOf, wayAt, rowCosts, across, along, Solved}
+use Rattle.exact.proofs.Columns.{way-row, Agree, nothing, some, agree}
 
 module _ (copper : Mask) (w h : ℕ) (wide : w ≤ maxSide) (tall : h ≤ maxSide) (m : List ℤ)
-    (ways : (x y : ℕ) → x < w → y < h → getD m (index w x y) (pos 0) ≡ shorter (up copper x y) (down copper h x y)) where
+    (ways : (x y : ℕ) → x < w → y < h → getD m (index w x y) (pos 0) ≡ wayOf copper h x y) where
   module _ (y : ℕ) (inside : y < h) where
-    costs : (k : ℕ) → k < w → getD (rowCosts m (y * w) w) k 0 ≡ costOf (way copper w h wide tall y inside k)
+    costs : (k : ℕ) → k < w → getD (rowCosts m (y * w) w) k 0 ≡ costOf (wayOf copper h k y)
     unfolding rowCosts
     costs k l = tabulate-at w _ k 0 l ∙ ap costOf (ways k y l inside)
 
     -- the vector to the best site is the one to what the run finds
-    vector : (x : ℕ) {f : Found} {b : ℕ} → Agree copper w h wide tall y inside x (rowCosts m (y * w) w) costs w f b
+    vector : (x : ℕ) {f : Found} {b : ℕ} → Agree copper h y w f b
         → (across b x ≡ toColumn x f) × (along (wayAt m (y * w)) b ≡ toRow y f)
     vector x nothing = (refl, refl)
     vector x (some k r l best) =

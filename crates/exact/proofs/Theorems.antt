@@ -28,10 +28,10 @@ use Rattle.envelope.specs.Best.{price, Site}
 use Rattle.envelope.specs.BestLaws.{best-found}
 use Rattle.envelope.specs.BestLaws as best
 use Rattle.exact.specs.Nearest.{Nearest, Exact, to-nearest, bare-sheet, Found, none, at, nearest, toColumn, toRow, exactMap, gate}
-use Rattle.exact.specs.Ways.{costOf}
+use Rattle.exact.specs.Ways.{wayOf, costOf}
 use Rattle.exact.proofs.Foot.{NearestRow, Foot, row, no-row, foot}
 use Rattle.exact.proofs.Search.{closer, as-close}
-use Rattle.exact.proofs.Columns.{way, row-site, row-price, Agree, nothing, some, agree}
+use Rattle.exact.proofs.Columns.{row-site, row-price, Agree, nothing, some, agree}
 
 -- what the run through the copper pixels finds
 data Answer (copper : Mask) (w h x y : ℕ) : Found → Type 0 where
@@ -40,9 +40,9 @@ data Answer (copper : Mask) (w h x y : ℕ) : Found → Type 0 where
 
 module _ (copper : Mask) (w h : ℕ) (wide : w ≤ maxSide) (tall : h ≤ maxSide) (x y : ℕ) (across : x < w) (down : y < h) where
   G : List ℕ
-  G = tabulate w (λ k. costOf (way copper w h wide tall y down k))
+  G = tabulate w (λ k. costOf (wayOf copper h k y))
 
-  costs : (k : ℕ) → k < w → getD G k 0 ≡ costOf (way copper w h wide tall y down k)
+  costs : (k : ℕ) → k < w → getD G k 0 ≡ costOf (wayOf copper h k y)
   unfolding G
   costs k l = tabulate-at w _ k 0 l
 
@@ -67,7 +67,7 @@ module _ (copper : Mask) (w h : ℕ) (wide : w ≤ maxSide) (tall : h ≤ maxSid
   site : (i j : ℕ) → Copper copper w h i j → Site G i
   site i j c = let r = row-of i j c in row-site copper w h wide tall y down x G costs i (r .at-row) (c .across) (r .best)
 
-  answer : {f : Found} {b : ℕ} → Agree copper w h wide tall y down x G costs w f b → best.Found G w x b → Answer copper w h x y f
+  answer : {f : Found} {b : ℕ} → Agree copper h y w f b → best.Found G w x b → Answer copper w h x y f
   answer nothing (inl (e, sites)) = no-copper (λ i j c. sites i (c .across) (site i j c))
   answer nothing (inr l) = absurd (omega (arith, l .below))
   answer (some k r m best) (inl (e, sites)) = absurd (omega arith)

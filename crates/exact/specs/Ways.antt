@@ -41,6 +41,10 @@ shorter (pos u) (negsuc d) = negℤ (pos u)
 shorter (negsuc u) (pos d) = pos d
 shorter (negsuc u) (negsuc d) = mark
 
+-- the way of the pixel (x, y) to the nearest copper of its column
+abbrev pub wayOf : (copper : Mask) (h x y : ℕ) → ℤ
+wayOf copper h x y = shorter (up copper x y) (down copper h x y)
+
 -- what a column with that way costs: its square, and no site where there is none
 abbrev pub costOf : ℤ → ℕ
 costOf v = cond (isMark v) 4294967295 (natAbs v * natAbs v)
