@@ -1,28 +1,27 @@
--- The run through the columns is the search for the best site, where a column costs the square of its way.
+-- The best site of a row, in which a column costs the square of its way, leads to the nearest copper pixel.
 -- Assumes nothing.
 use mathlib.Core.Path.{_≡_, refl, sym, ap, _∙_}
+use mathlib.Core.Logic.{_⊎_, inl, inr}
 use mathlib.Core.Bool.{Bool, true, false, cond, true≢false}
 use mathlib.Core.List.{List}
-use Prim.Native.Nat.{ℕ, zero, suc, _*_, _-_, _<_, _≤_}
+use Prim.Native.Nat.{ℕ, _*_, _<_, _≤_}
+use native.Mathlib.Decide.{decLt}
 use native.Mathlib.Nat.{mul-le-mul}
 use native.Mathlib.Omega.{arith}
-use lib.Dec.{ltb}
 use lib.IntN.{ℤ, pos, natAbs, _-ℤ_}
 use lib.ListN.{getD}
-use borrow.Author.Tests.{ltb-true, ltb-false}
-use Rattle.raster.specs.Distance.{gap, apart}
-use Rattle.raster.specs.DistanceLaws.{gap-below}
+use borrow.Author.Tests.{ne-eqb}
+use Rattle.raster.specs.Distance.{gap, apart, Copper}
+use Rattle.raster.specs.DistanceLaws.{gap-below, square-le}
 use Rattle.raster.specs.Limits.{maxSide}
-use Rattle.raster.specs.Loop.{ascend}
 use Rattle.raster.specs.Pixels.{Mask}
 use Rattle.raster.specs.Vector.{isMark}
-use Rattle.raster.specs.VectorLaws.{mark-abs, way-abs}
-use Rattle.envelope.specs.Best.{priceOf, price, Site, better, bestSite}
-use Rattle.envelope.specs.BestLaws.{better-none, better-first, better-new, better-old}
-use Rattle.exact.specs.Nearest.{Found, none, at, nearer, visit}
-use Rattle.exact.specs.Ways.{wayOf, costOf}
-use Rattle.exact.proofs.Foot.{NearestRow, Foot, row, no-row, same-row, foot}
-use Rattle.exact.proofs.Search.{no-copper, column-search}
+use Rattle.raster.specs.VectorLaws.{mark-abs, way-abs, way-ends}
+use Rattle.envelope.specs.Best.{priceOf, price, Site, bestSite}
+use Rattle.envelope.specs.BestLaws.{Least, Found, best-found}
+use Rattle.exact.specs.Nearest.{Exact, to-nearest, bare-sheet}
+use Rattle.exact.specs.Ways.{costOf, across, along}
+use Rattle.exact.proofs.Foot.{Foot, row, no-row}
 
 -- a way to a row of the sheet is as long as the rows lie apart, and is not the mark
 way-cost : (y r h : ℕ) → h ≤ maxSide → y < h → r < h → costOf (pos r -ℤ pos y) ≡ gap y r * gap y r
@@ -32,57 +31,61 @@ way-cost y r h tall a b = go (isMark (pos r -ℤ pos y)) refl
     go true e = absurd (omega (arith, mark-abs (pos r -ℤ pos y) e, way-abs y r, gap-below y r h a b))
     go false e = rw (way-abs y r)
 
--- what was found in the first n columns, and their best site
-pub data Agree (copper : Mask) (h y n : ℕ) : Found → ℕ → Type 0 where
-  nothing : Agree copper h y n none 65535
-  some : (k r : ℕ) → k < n → NearestRow copper h k y r → Agree copper h y n (at k r) k
+-- in one column the squared distance goes by the row
+closer : (x y i a b : ℕ) → gap y a < gap y b → apart x y i a < apart x y i b
+unfolding apart
+closer x y i a b l = omega (arith, mul-le-mul l l)
 
-longer : {copper : Mask} {h y n : ℕ} {f : Found} {b : ℕ} → Agree copper h y n f b → Agree copper h y (suc n) f b
-longer nothing = nothing
-longer (some k r l best) = some k r (omega arith) best
+as-close : (x y i a b : ℕ) → gap y a ≤ gap y b → apart x y i a ≤ apart x y i b
+unfolding apart
+as-close x y i a b l = omega (arith, square-le l)
 
-module _ (copper : Mask) (w h : ℕ) (wide : w ≤ maxSide) (tall : h ≤ maxSide) (y : ℕ) (inside : y < h) where
-  pub way-row : (k r : ℕ) → NearestRow copper h k y r → wayOf copper h k y ≡ pos r -ℤ pos y
-  way-row k r best = go (foot copper h k y inside)
+module _ (copper : Mask) (w h : ℕ) (wide : w ≤ maxSide) (tall : h ≤ maxSide) (x y : ℕ) (inside : y < h) (v : ℕ → ℤ) (G : List ℕ)
+    (feet : (k : ℕ) → k < w → Foot copper h k y (v k)) (costs : (k : ℕ) → k < w → getD G k 0 ≡ costOf (v k)) where
+  -- a column whose way leads to row r is a site, with the price of the squared distance
+  priced : (k r : ℕ) → r < h → getD G k 0 ≡ costOf (pos r -ℤ pos y) → Site G k × (price G x k ≡ apart x y k r)
+  unfolding priceOf apart
+  priced k r on e =
+      let c = e ∙ way-cost y r h tall inside on in
+      let g = gap-below y r h inside on in
+      let s : gap y r ≤ 2047 = omega arith in
+      (omega (arith, c, mul-le-mul s s), rw c)
+
+  -- so is a column with copper, and its price is at most the squared distance of each copper pixel
+  column : (i j : ℕ) → Copper copper w h i j → Site G i × (price G x i ≤ apart x y i j)
+  column i j c = go (feet i (c .across)) (costs i (c .across))
     where
-      go : {v : ℤ} → Foot copper h k y v → v ≡ pos r -ℤ pos y
-      go (row s other) = ap (λ (t : ℕ). pos t -ℤ pos y) (same-row copper h k y s r other best)
-      go (no-row bare) = absurd (true≢false (sym (best .metal) ∙ bare r (best .on)))
+      go : {u : ℤ} → Foot copper h i y u → getD G i 0 ≡ costOf u → Site G i × (price G x i ≤ apart x y i j)
+      go (row r best) e = let p = priced i r (best .on) e in (p .0, omega (arith, p .1, as-close x y i r j (best .least j (c .down) (c .metal))))
+      go (no-row bare) e = absurd (true≢false (sym (c .metal) ∙ bare j (c .down)))
 
-  module _ (x : ℕ) (G : List ℕ) (costs : (k : ℕ) → k < w → getD G k 0 ≡ costOf (wayOf copper h k y)) where
-    row-cost : (k r : ℕ) → k < w → NearestRow copper h k y r → getD G k 0 ≡ gap y r * gap y r
-    row-cost k r l best = costs k l ∙ ap costOf (way-row k r best) ∙ way-cost y r h tall inside (best .on)
+  nearest-site : {b : ℕ} {u : ℤ} → Least G w x b → Foot copper h b y u → getD G b 0 ≡ costOf u → Exact copper w h x y (pos b -ℤ pos x) u
+  nearest-site l (no-row bare) e = absurd (omega (arith, e, l .site))
+  nearest-site {b} l (row r best) e =
+      to-nearest b r
+      (record {
+        metal = record { across = l .below; down = best .on; metal = best .metal };
+        least = λ i j c. let k = column i j c in omega (arith, here, l .least i (c .across) (k .0), k .1);
+        first = λ i j c s. go i j c s (decLt b i) (decLt i b);
+      })
+      (record { column = way-ends x b; row = way-ends y r })
+    where
+      here : price G x b ≡ apart x y b r
+      here = priced b r (best .on) e .1
 
-    pub row-site : (k r : ℕ) → k < w → NearestRow copper h k y r → Site G k
-    row-site k r l best = let g = gap-below y r h inside (best .on) in let s : gap y r ≤ 2047 = omega arith in omega (arith, row-cost k r l best, mul-le-mul s s)
+      go : (i j : ℕ) → Copper copper w h i j → apart x y i j ≡ apart x y b r → Dec (b < i) → Dec (i < b) → (b < i) ⊎ ((b ≡ i) × (r ≤ j))
+      go i j c s (yes p) q = inl p
+      go i j c s (no p) (yes q) = let k = column i j c in absurd (omega (arith, here, l .first i q (k .0), k .1))
+      go i j c s (no p) (no q) = let z : b ≡ i = omega arith in inr (z, upper z (decLt j r))
+        where
+          upper : b ≡ i → Dec (j < r) → r ≤ j
+          upper z (yes t) = absurd (omega (arith, closer x y b r j (best .first j t (rw (← z) at (c .metal))), ap (λ (n : ℕ). apart x y n j) z))
+          upper z (no t) = omega arith
 
-    pub row-price : (k r : ℕ) → k < w → NearestRow copper h k y r → price G x k ≡ apart x y k r
-    unfolding priceOf apart
-    row-price k r l best = rw (row-cost k r l best)
-
-    with-row : (n : ℕ) → n < w → (r : ℕ) → NearestRow copper h n y r → {f : Found} {b : ℕ} → Agree copper h y n f b → Agree copper h y (suc n) (cond (nearer x y n r f) (at n r) f) (better G x b n)
-    with-row n l r best nothing = rw (better-first G x 65535 n (row-site n r l best) refl) (some n r (omega arith) best)
-    with-row n l r best (some k s m other) = go (ltb (apart x y n r) (apart x y k s)) refl
-      where
-        site : Site G n
-        site = row-site n r l best
-
-        here : price G x n ≡ apart x y n r
-        here = row-price n r l best
-
-        there : price G x k ≡ apart x y k s
-        there = row-price k s (omega arith) other
-
-        go : (t : Bool) → ltb (apart x y n r) (apart x y k s) ≡ t → Agree copper h y (suc n) (cond t (at n r) (at k s)) (better G x k n)
-        go true e = rw (better-new G x k n site (omega (arith, here, there, ltb-true (apart x y n r) (apart x y k s) e))) (some n r (omega arith) best)
-        go false e =
-            rw (better-old G x k n site (omega arith) (omega (arith, here, there, ltb-false (apart x y n r) (apart x y k s) e))) (some k s (omega arith) other)
-
-    pub agree : (n : ℕ) → n ≤ w → Agree copper h y n (ascend (λ i. ascend (visit copper x y i) h) n none) (bestSite G n x)
-    unfolding ascend bestSite
-    agree zero l = nothing
-    agree (suc n) l = go (agree n (omega arith)) (costs n (omega arith)) (foot copper h n y inside)
-      where
-        go : {f : Found} {b : ℕ} {v : ℤ} → Agree copper h y n f b → getD G n 0 ≡ costOf v → Foot copper h n y v → Agree copper h y (suc n) (ascend (visit copper x y n) h f) (better G x b n)
-        go {f} {b} a c (row r best) = rw (column-search copper x y h n r best f) (with-row n (omega arith) r best a)
-        go {f} {b} a c (no-row bare) = rw (no-copper copper x y h n bare h (omega arith) f, better-none G x b n (omega (arith, c))) (longer a)
+  -- the vector to the best site
+  pub site-exact : Exact copper w h x y (across (bestSite G w x) x) (along v (bestSite G w x))
+  site-exact = go (best-found G w x (omega arith))
+    where
+      go : {b : ℕ} → Found G w x b → Exact copper w h x y (across b x) (along v b)
+      go (inl (e, none)) = rw e (bare-sheet (λ i j c. none i (c .across) (column i j c .0)) refl)
+      go {b} (inr l) = rw (ne-eqb b 65535 (omega (arith, l .below))) (nearest-site l (feet b (l .below)) (costs b (l .below)))

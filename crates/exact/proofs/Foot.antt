@@ -3,7 +3,7 @@
 use mathlib.Core.Path.{_≡_, sym, ap, subst, _∙_}
 use mathlib.Core.Bool.{Bool, true, false, true≢false}
 use Prim.Native.Nat.{ℕ, _+_, _-_, _<_, _≤_}
-use native.Mathlib.Decide.{decLe, decLt}
+use native.Mathlib.Decide.{decLe}
 use native.Mathlib.Omega.{arith}
 use lib.Dec.{leb}
 use lib.IntN.{ℤ, pos, _-ℤ_}
@@ -22,16 +22,6 @@ pub record NearestRow (copper : Mask) (h i y r : ℕ) : Type 0 where
   pub metal : copper i r ≡ true
   pub least : (j : ℕ) → j < h → copper i j ≡ true → gap y r ≤ gap y j
   pub first : (j : ℕ) → j < r → copper i j ≡ true → gap y r < gap y j
-
--- there is one such row
-pub same-row : (copper : Mask) (h i y r s : ℕ) → NearestRow copper h i y r → NearestRow copper h i y s → r ≡ s
-same-row copper h i y r s p q = elim (decLt r s) [
-  | yes l ↦ absurd (omega (arith, q .first r l (p .metal), p .least s (q .on) (q .metal)))
-  | no n ↦ elim (decLt s r) [
-    | yes l ↦ absurd (omega (arith, p .first s l (q .metal), q .least r (p .on) (p .metal)))
-    | no m ↦ omega arith
-  ]
-]
 
 -- what a way says of its column
 pub data Foot (copper : Mask) (h i y : ℕ) : ℤ → Type 0 where

@@ -1,10 +1,11 @@
--- `Theorems` is what callers cite of the exact map; what stands above it leads up to it. Below it: what the proofs of several functions share.
+-- `Theorems` is what callers cite of the exact map, `Search` leads up to it. Below: `Solved`, that the code leaves that map, and what leads up to it; then
+-- what the proofs of several functions share.
+pub mod Search
+pub mod Theorems
 pub mod Back
 pub mod Foot
-pub mod Search
 pub mod Columns
 pub mod Solved
-pub mod Theorems
 pub mod Numbers
 pub mod Spreading
 pub mod Passes

@@ -1,103 +1,138 @@
--- The run through the copper pixels, a column at a time. A column gives its nearest copper, and that is kept if it is nearer than what was found before;
--- so the run is the search for the best site of the row's envelope.
+-- The run through the copper pixels, by column, then row: what is kept is the nearest of those seen, and the first of equals.
 -- Assumes nothing.
-use mathlib.Core.Path.{_≡_, refl, sym, ap, subst, _∙_}
+use mathlib.Core.Path.{_≡_, refl, sym, ap, ap₂, _∙_}
+use mathlib.Core.Logic.{_⊎_, inl, inr}
 use mathlib.Core.Bool.{Bool, true, false, cond, _&&_, true≢false}
-use Prim.Native.Nat.{ℕ, zero, suc, _-_, _<_, _≤_}
+use Prim.Native.Nat.{ℕ, zero, suc, _+_, _*_, _<_, _≤_}
 use native.Mathlib.Decide.{decLt}
-use native.Mathlib.Nat.{mul-le-mul}
+use native.Mathlib.Nat.{mul-le-mul-right}
 use native.Mathlib.Omega.{arith}
-use borrow.Author.Tests.{ltb-true, ltb-false, lt-ltb, le-ltb}
-use Rattle.raster.specs.Distance.{gap, apart}
-use Rattle.raster.specs.DistanceLaws.{square-le}
+use lib.Dec.{ltb}
+use borrow.Author.Tests.{ltb-true, ltb-false}
+use Rattle.raster.specs.Distance.{apart, Copper}
 use Rattle.raster.specs.Loop.{ascend}
-use Rattle.raster.specs.Pixels.{Mask}
-use Rattle.exact.specs.Nearest.{Found, none, at, nearer, visit}
-use Rattle.exact.proofs.Foot.{NearestRow}
+use Rattle.raster.specs.Pixels.{Mask, index}
+use Rattle.raster.specs.PixelsLaws.{index-one, index-inside}
+use Rattle.exact.specs.Nearest.{Nearest, Found, none, at, nearer, visit, nearest}
 
-module _ (copper : Mask) (x y h i : ℕ) where
-  -- in one column the squared distance goes by the row
-  pub closer : (a b : ℕ) → gap y a < gap y b → apart x y i a < apart x y i b
-  unfolding apart
-  closer a b l = omega (arith, mul-le-mul l l)
+-- what the run finds
+pub data Answer (copper : Mask) (w h x y : ℕ) : Found → Type 0 where
+  no-copper : ((i j : ℕ) → Copper copper w h i j → ⊥) → Answer copper w h x y none
+  nearest-at : (i j : ℕ) → Nearest copper w h x y i j → Answer copper w h x y (at i j)
 
-  pub as-close : (a b : ℕ) → gap y a ≤ gap y b → apart x y i a ≤ apart x y i b
-  unfolding apart
-  as-close a b l = omega (arith, square-le l)
+module _ (copper : Mask) (h x y : ℕ) where
+  -- the copper pixels before the n-th of the run, in which (a, b) is at a × h + b
+  record Seen (n a b : ℕ) : Type 0 where
+    metal : copper a b ≡ true
+    on : b < h
+    before : index h b a < n
 
-  -- what is nearer than something nearer is nearer; what is not nearer than something no farther is not
-  nearer-on : (a b : ℕ) (f : Found) → apart x y i a ≤ apart x y i b → nearer x y i b f ≡ true → nearer x y i a f ≡ true
-  nearer-on a b none l e = refl
-  nearer-on a b (at s t) l e = lt-ltb (apart x y i a) (apart x y s t) (omega (arith, ltb-true (apart x y i b) (apart x y s t) e))
+  -- (a, b) is farther off than (i, j), or as far and no earlier
+  abbrev Behind : (i j a b : ℕ) → Type 0
+  Behind i j a b = (apart x y i j < apart x y a b) ⊎ ((apart x y i j ≡ apart x y a b) × (index h j i ≤ index h b a))
 
-  not-nearer : (a b : ℕ) (f : Found) → apart x y i a ≤ apart x y i b → nearer x y i a f ≡ false → nearer x y i b f ≡ false
-  not-nearer a b none l e = e
-  not-nearer a b (at s t) l e = le-ltb (apart x y i b) (apart x y s t) (omega (arith, ltb-false (apart x y i a) (apart x y s t) e))
+  -- of those, (i, j) is the one to keep
+  record First (n i j : ℕ) : Type 0 where
+    seen : Seen n i j
+    wins : (a b : ℕ) → Seen n a b → Behind i j a b
 
-  -- a bare pixel, or one that is not nearer, changes nothing
-  passed : (j : ℕ) (f : Found) → (copper i j ≡ true → nearer x y i j f ≡ false) → visit copper x y i j f ≡ f
-  passed j f no-gain = go (copper i j) refl
+  no-nearer : {n i j : ℕ} → First n i j → (a b : ℕ) → Seen n a b → apart x y i j ≤ apart x y a b
+  no-nearer {n} {i} {j} k a b s = go (k .wins a b s)
     where
-      go : (t : Bool) → copper i j ≡ t → cond (t && nearer x y i j f) (at i j) f ≡ f
-      go true e = rw (no-gain e)
-      go false e = refl
+      go : Behind i j a b → apart x y i j ≤ apart x y a b
+      go (inl l) = omega arith
+      go (inr l) = omega (arith, l .0)
 
-  pub no-copper : ((j : ℕ) → j < h → copper i j ≡ false) → (n : ℕ) → n ≤ h → (f : Found) → ascend (visit copper x y i) n f ≡ f
-  unfolding ascend
-  no-copper bare zero l f = refl
-  no-copper bare (suc n) l f = ap (visit copper x y i n) (no-copper bare n (omega arith) f) ∙ passed n f (λ c. absurd (true≢false (sym c ∙ bare n (omega arith))))
+  -- what was found, of those
+  data Best (n : ℕ) : Found → Type 0 where
+    empty : ((a b : ℕ) → Seen n a b → ⊥) → Best n none
+    best : (i j : ℕ) → First n i j → Best n (at i j)
 
-  module _ (r : ℕ) (best : NearestRow copper h i y r) (f : Found) where
-    -- before the row r: what was found, or a pixel of the column that is nearer than that
-    data Before (n : ℕ) : Found → Type 0 where
-      same : Before n f
-      gained : (j : ℕ) → j < n → copper i j ≡ true → nearer x y i j f ≡ true → Before n (at i j)
+  module _ (i j : ℕ) (on : j < h) where
+    abbrev n : ℕ
+    n = index h j i
 
-    longer : {n : ℕ} {g : Found} → Before n g → Before (suc n) g
-    longer same = same
-    longer (gained j l c e) = gained j (omega arith) c e
-
-    one-more : {n : ℕ} {g : Found} → Before n g → Before (suc n) (visit copper x y i n g)
-    one-more {n} {g} b = go (copper i n) (nearer x y i n g) refl refl
-      where
-        gain : {g : Found} → Before n g → nearer x y i n g ≡ true → nearer x y i n f ≡ true
-        gain same e = e
-        gain (gained j l c e′) e = nearer-on n j f (omega (arith, ltb-true (apart x y i n) (apart x y i j) e)) e′
-
-        go : (t u : Bool) → copper i n ≡ t → nearer x y i n g ≡ u → Before (suc n) (cond (t && u) (at i n) g)
-        go false u e q = longer b
-        go true false e q = longer b
-        go true true e q = gained n (omega arith) e (gain b q)
-
-    before : (n : ℕ) → Before n (ascend (visit copper x y i) n f)
-    unfolding ascend
-    before zero = same
-    before (suc n) = one-more (before n)
-
-    -- from the row r on: its pixel, if that is nearer than what was found
-    abbrev after : Found
-    after = cond (nearer x y i r f) (at i r) f
-
-    reached : {g : Found} → Before r g → visit copper x y i r g ≡ after
-    reached same = rw (best .metal)
-    reached (gained j l c e) =
-        let q = closer r j (best .first j l c) in
-        rw (best .metal, lt-ltb (apart x y i r) (apart x y i j) q, nearer-on r j f (omega arith) e)
-
-    stays : (j : ℕ) → j < h → visit copper x y i j after ≡ after
-    stays j l = passed j after (λ c. go (nearer x y i r f) refl (as-close r j (best .least j l c)))
-      where
-        go : (t : Bool) → nearer x y i r f ≡ t → apart x y i r ≤ apart x y i j → nearer x y i j (cond t (at i r) f) ≡ false
-        go true e q = le-ltb (apart x y i j) (apart x y i r) q
-        go false e q = not-nearer r j f q e
-
-    from : (n : ℕ) → r < n → n ≤ h → ascend (visit copper x y i) n f ≡ after
-    unfolding ascend
-    from zero l m = absurd (omega arith)
-    from (suc n) l m = elim (decLt r n) [
-      | yes q ↦ ap (visit copper x y i n) (from n q (omega arith)) ∙ stays n (omega arith)
-      | no q ↦ let e : r ≡ n = omega arith in subst (λ (k : ℕ). visit copper x y i k (ascend (visit copper x y i) k f) ≡ after) e (reached (before r))
+    -- one seen up to (i, j) is one seen before it, or is it
+    next : {a b : ℕ} → Seen (n + 1) a b → Seen n a b ⊎ ((a ≡ i) × (b ≡ j))
+    next {a} {b} s = elim (decLt (index h b a) n) [
+      | yes l ↦ inl (record { metal = s .metal; on = s .on; before = l })
+      | no l ↦ let e = index-one h b a j i (s .on) on (omega (arith, s .before)) in inr (e .1, e .0)
     ]
 
-    pub column-search : ascend (visit copper x y i) h f ≡ after
-    column-search = from h (best .on) (omega arith)
+    -- (i, j) is taken, or what was found before stays
+    taken : copper i j ≡ true → ((a b : ℕ) → Seen n a b → apart x y i j < apart x y a b) → First (n + 1) i j
+    taken e beats = record { seen = record { metal = e; on = on; before = omega arith }; wins = λ a b s. go (next s) }
+      where
+        go : {a b : ℕ} → Seen n a b ⊎ ((a ≡ i) × (b ≡ j)) → Behind i j a b
+        go {a} {b} (inl s) = inl (beats a b s)
+        go (inr (p, q)) = inr (rw (p, q) (refl, omega arith))
+
+    stays : {p q : ℕ} → First n p q → (copper i j ≡ true → apart x y p q ≤ apart x y i j) → First (n + 1) p q
+    stays {p} {q} k l = record { seen = record { metal = k .seen .metal; on = k .seen .on; before = omega (arith, k .seen .before) }; wins = λ a b s. go (s .metal) (next s) }
+      where
+        go : {a b : ℕ} → copper a b ≡ true → Seen n a b ⊎ ((a ≡ i) × (b ≡ j)) → Behind p q a b
+        go {a} {b} c (inl s) = k .wins a b s
+        go c (inr (u, v)) = rw (u, v) (elim (decLt (apart x y p q) (apart x y i j)) [
+          | yes m ↦ inl m
+          | no m ↦ inr (omega (arith, l (rw (u, v) at c)), omega (arith, k .seen .before))
+        ])
+
+    more : {f : Found} → Best n f → Best (n + 1) (visit copper x y i j f)
+    more k = go (copper i j) refl k
+      where
+        go : (t : Bool) → copper i j ≡ t → {f : Found} → Best n f → Best (n + 1) (cond (t && nearer x y i j f) (at i j) f)
+        go false e (empty none-seen) = empty (λ a b s. bare (s .metal) (next s))
+          where
+            bare : {a b : ℕ} → copper a b ≡ true → Seen n a b ⊎ ((a ≡ i) × (b ≡ j)) → ⊥
+            bare {a} {b} c (inl s) = none-seen a b s
+            bare c (inr (p, q)) = true≢false (sym c ∙ ap₂ copper p q ∙ e)
+        go false e (best p q k) = best p q (stays k (λ c. absurd (true≢false (sym c ∙ e))))
+        go true e (empty none-seen) = best i j (taken e (λ a b s. absurd (none-seen a b s)))
+        go true e (best p q k) = pick (ltb (apart x y i j) (apart x y p q)) refl
+          where
+            pick : (t : Bool) → ltb (apart x y i j) (apart x y p q) ≡ t → Best (n + 1) (cond t (at i j) (at p q))
+            pick true l = best i j (taken e (λ a b s. omega (arith, ltb-true (apart x y i j) (apart x y p q) l, no-nearer k a b s)))
+            pick false l = best p q (stays k (λ c. ltb-false (apart x y i j) (apart x y p q) l))
+
+  rows : (i m : ℕ) {f : Found} → m ≤ h → Best (index h 0 i) f → Best (index h m i) (ascend (visit copper x y i) m f)
+  unfolding ascend
+  rows i zero l k = k
+  rows i (suc m) l k = let e : index h (suc m) i ≡ index h m i + 1 = omega arith in rw e (more i m (omega arith) (rows i m (omega arith) k))
+
+  columns : (m : ℕ) → Best (index h 0 m) (ascend (λ i. ascend (visit copper x y i) h) m none)
+  unfolding ascend
+  columns zero = empty (λ a b s. omega (arith, s .before))
+  columns (suc m) = let e : index h 0 (suc m) ≡ index h h m = omega arith in rw e (rows m h (omega arith) (columns m))
+
+-- the run finds the nearest copper pixel
+pub found : (copper : Mask) (w h x y : ℕ) → Answer copper w h x y (nearest copper x y w h)
+unfolding nearest
+found copper w h x y = go (columns copper h x y w)
+  where
+    seen : (a b : ℕ) → Copper copper w h a b → Seen copper h x y (index h 0 w) a b
+    seen a b c = record { metal = c .metal; on = c .down; before = omega (arith, index-inside h b a (c .down) w (c .across)) }
+
+    on-sheet : (a b : ℕ) → Seen copper h x y (index h 0 w) a b → Copper copper w h a b
+    on-sheet a b s = record {
+      across = elim (decLt a w) [ yes l ↦ l | no l ↦ let k : w ≤ a = omega arith in absurd (omega (arith, s .before, mul-le-mul-right h k)) ];
+      down = s .on;
+      metal = s .metal;
+    }
+
+    go : {f : Found} → Best copper h x y (index h 0 w) f → Answer copper w h x y f
+    go (empty none-seen) = no-copper (λ i j c. none-seen i j (seen i j c))
+    go (best i j k) = nearest-at i j (record {
+      metal = on-sheet i j (k .seen);
+      least = λ a b c. no-nearer copper h x y k a b (seen a b c);
+      first = λ a b c e. first a b (c .down) e (k .wins a b (seen a b c));
+    })
+      where
+        first : (a b : ℕ) → b < h → apart x y a b ≡ apart x y i j → Behind copper h x y i j a b → (i < a) ⊎ ((i ≡ a) × (j ≤ b))
+        first a b d e (inl l) = absurd (omega arith)
+        first a b d e (inr l) = elim (decLt i a) [
+          | yes k ↦ inl k
+          | no n ↦ elim (decLt a i) [
+            | yes k ↦ absurd (omega (arith, l .1, mul-le-mul-right h k))
+            | no k ↦ let z : i ≡ a = omega arith in inr (z, omega (arith, l .1, ap (λ (t : ℕ). t * h) z))
+          ]
+        ]

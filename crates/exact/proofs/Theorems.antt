@@ -8,10 +8,9 @@ use mathlib.Core.Logic.{_⊎_, inl, inr}
 use mathlib.Core.Bool.{true, false, _&&_, true≢false, false≢true}
 use mathlib.Core.List.{List}
 use Prim.Native.Nat.{ℕ, _*_, _<_, _≤_}
-use native.Mathlib.Decide.{decLt}
 use native.Mathlib.Omega.{arith}
 use lib.IntN.{ℤ, pos, negsuc, _+ℤ_, _-ℤ_, +ℤ-comm, +ℤ-negℤ-cancel}
-use lib.ListN.{length, getD}
+use lib.ListN.{length}
 use borrow.Author.Tests.{eqb-true}
 use Rattle.raster.specs.Distance.{apart, Copper, Clear}
 use Rattle.raster.specs.Gate.{passes, NearBy}
@@ -19,85 +18,14 @@ use Rattle.raster.specs.GateLaws.{passed-above, failed-near}
 use Rattle.raster.specs.Limits.{maxSide}
 use Rattle.raster.specs.Map.{dxAt, dyAt}
 use Rattle.raster.specs.MapLaws.{vectors-dx, vectors-dy, vectors-is}
-use Rattle.raster.specs.Pixels.{Mask, index, tabulate}
-use Rattle.raster.specs.PixelsLaws.{tabulate-at}
+use Rattle.raster.specs.Pixels.{Mask, index}
 use Rattle.raster.specs.Vector.{size, mark, isMark, inRange, unlabelled, Target}
 use Rattle.raster.specs.VectorLaws.{range-labelled, way-ends, ends-size, target-range}
 use Rattle.raster.specs.Tests.{and-left, and-right}
-use Rattle.envelope.specs.Best.{price, Site}
-use Rattle.envelope.specs.BestLaws.{best-found}
-use Rattle.envelope.specs.BestLaws as best
-use Rattle.exact.specs.Nearest.{Nearest, Exact, to-nearest, bare-sheet, Found, none, at, nearest, toColumn, toRow, exactMap, gate}
-use Rattle.exact.specs.Ways.{wayOf, costOf}
-use Rattle.exact.proofs.Foot.{NearestRow, Foot, row, no-row, foot}
-use Rattle.exact.proofs.Search.{closer, as-close}
-use Rattle.exact.proofs.Columns.{row-site, row-price, Agree, nothing, some, agree}
-
--- what the run through the copper pixels finds
-data Answer (copper : Mask) (w h x y : ℕ) : Found → Type 0 where
-  no-copper : ((i j : ℕ) → Copper copper w h i j → ⊥) → Answer copper w h x y none
-  nearest-at : (i j : ℕ) → Nearest copper w h x y i j → Answer copper w h x y (at i j)
+use Rattle.exact.specs.Nearest.{Nearest, Exact, to-nearest, bare-sheet, Found, nearest, toColumn, toRow, exactMap, gate}
+use Rattle.exact.proofs.Search.{Answer, no-copper, nearest-at, found}
 
 module _ (copper : Mask) (w h : ℕ) (wide : w ≤ maxSide) (tall : h ≤ maxSide) (x y : ℕ) (across : x < w) (down : y < h) where
-  G : List ℕ
-  G = tabulate w (λ k. costOf (wayOf copper h k y))
-
-  costs : (k : ℕ) → k < w → getD G k 0 ≡ costOf (wayOf copper h k y)
-  unfolding G
-  costs k l = tabulate-at w _ k 0 l
-
-  -- a column with copper has a nearest row
-  record Row (i : ℕ) : Type 0 where
-    at-row : ℕ
-    best : NearestRow copper h i y at-row
-
-  row-of : (i j : ℕ) → Copper copper w h i j → Row i
-  row-of i j c = go (foot copper h i y down)
-    where
-      go : {v : ℤ} → Foot copper h i y v → Row i
-      go (row r best) = record { at-row = r; best = best }
-      go (no-row bare) = absurd (true≢false (sym (c .metal) ∙ bare j (c .down)))
-
-  -- its price is at most the squared distance of every copper pixel of the column
-  price-le : (i j : ℕ) → Copper copper w h i j → price G x i ≤ apart x y i j
-  price-le i j c =
-      let r = row-of i j c in
-      omega (arith, row-price copper w h wide tall y down x G costs i (r .at-row) (c .across) (r .best), as-close copper x y h i (r .at-row) j (r .best .least j (c .down) (c .metal)))
-
-  site : (i j : ℕ) → Copper copper w h i j → Site G i
-  site i j c = let r = row-of i j c in row-site copper w h wide tall y down x G costs i (r .at-row) (c .across) (r .best)
-
-  answer : {f : Found} {b : ℕ} → Agree copper h y w f b → best.Found G w x b → Answer copper w h x y f
-  answer nothing (inl (e, sites)) = no-copper (λ i j c. sites i (c .across) (site i j c))
-  answer nothing (inr l) = absurd (omega (arith, l .below))
-  answer (some k r m best) (inl (e, sites)) = absurd (omega arith)
-  answer (some k r m best) (inr l) =
-      nearest-at k r (record {
-        metal = record { across = m; down = best .on; metal = best .metal };
-        least = λ a b c. omega (arith, here, l .least a (c .across) (site a b c), price-le a b c);
-        first = λ a b c e. go a b c e (decLt k a) (decLt a k);
-      })
-    where
-      here : price G x k ≡ apart x y k r
-      here = row-price copper w h wide tall y down x G costs k r m best
-
-      go : (a b : ℕ) → Copper copper w h a b → apart x y a b ≡ apart x y k r → Dec (k < a) → Dec (a < k) → (k < a) ⊎ ((k ≡ a) × (r ≤ b))
-      go a b c e (yes p) q = inl p
-      go a b c e (no p) (yes q) = absurd (omega (arith, here, l .first a q (site a b c), price-le a b c))
-      go a b c e (no p) (no q) = let z : k ≡ a = omega arith in inr (z, upper z (decLt b r))
-        where
-          upper : k ≡ a → Dec (b < r) → r ≤ b
-          upper z (yes s) =
-              let metal = rw (← z) at (c .metal) in
-              absurd (omega (arith, closer copper x y h k r b (best .first b s metal), ap (λ (t : ℕ). apart x y t b) z))
-          upper z (no s) = omega arith
-
-  found : Answer copper w h x y (nearest copper x y w h)
-  unfolding nearest
-  found = answer (agree copper w h wide tall y down x G costs w (omega arith)) (best-found G w x (omega arith))
-
-  -- ---- the vector at the pixel
-
   abbrev pub dx : ℤ
   dx = dxAt (exactMap copper w h) (index w x y)
 
@@ -116,7 +44,7 @@ module _ (copper : Mask) (w h : ℕ) (wide : w ≤ maxSide) (tall : h ≤ maxSid
 
   -- the vector is the one that document 01 asks for
   pub is-exact : Exact copper w h x y dx dy
-  is-exact = go found dx-is dy-is
+  is-exact = go (found copper w h x y) dx-is dy-is
     where
       go : {f : Found} → Answer copper w h x y f → dx ≡ toColumn x f → dy ≡ toRow y f → Exact copper w h x y dx dy
       go (no-copper bare) p q = bare-sheet bare (rw (p, q))
@@ -185,10 +113,10 @@ one-mark (pos n) e = absurd (false≢true e)
 one-mark (negsuc n) e = ap negsuc (eqb-true n 32767 e)
 
 -- a map that is exact at every pixel is the exact map
-pub only-exact : (copper : Mask) (w h : ℕ) → w ≤ maxSide → h ≤ maxSide → (m : List ℤ) → length m ≡ 2 * (h * w)
+pub only-exact : (copper : Mask) (w h : ℕ) (m : List ℤ) → length m ≡ 2 * (h * w)
     → ((x y : ℕ) → x < w → y < h → Exact copper w h x y (dxAt m (index w x y)) (dyAt m (index w x y))) → m ≡ exactMap copper w h
 unfolding exactMap
-only-exact copper w h wide tall m long exact-at = vectors-is w h _ _ m long (λ x y a b. go (exact-at x y a b) (found copper w h wide tall x y a b))
+only-exact copper w h m long exact-at = vectors-is w h _ _ m long (λ x y a b. go (exact-at x y a b) (found copper w h x y))
   where
     go : {x y : ℕ} {dx dy : ℤ} {f : Found} → Exact copper w h x y dx dy → Answer copper w h x y f → (dx ≡ toColumn x f) × (dy ≡ toRow y f)
     go (to-nearest i j n e) (no-copper bare) = absurd (bare i j (n .metal))
