@@ -105,7 +105,7 @@ run-over {base} {a} {b} {c} {d} h k l earlier later = record {
 }
 
 -- two runs that meet: the later one was written first, and the earlier one says what it should
-run-join : {base a b n : ℕ} {u v : ℕ → ℤ} {way best : ℕ → ℕ} {m o q : List ℤ} → a ≤ b → b ≤ n
+pub run-join : {base a b n : ℕ} {u v : ℕ → ℤ} {way best : ℕ → ℕ} {m o q : List ℤ} → a ≤ b → b ≤ n
     → Written base b n v best m o → Written base a b u way o q
     → ((x : ℕ) → a ≤ x → x < b → (best x ≡ way x) × (along u (way x) ≡ along v (way x))) → Written base a n v best m q
 run-join {base} {a} {b} {n} {u} {v} {way} {best} {m} {o} {q} h k later earlier same = record {
