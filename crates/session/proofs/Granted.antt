@@ -2,7 +2,7 @@
 -- their limits.
 -- Assumes nothing.
 use mathlib.Core.Path.{_≡_, refl, sym, _∙_}
-use mathlib.Core.Bool.{Bool, true, false, _&&_, _||_}
+use mathlib.Core.Bool.{Bool, true, false, _&&_, _||_, not}
 use mathlib.Core.List.{List, [], _∷_}
 use Prim.Native.Nat.{ℕ, zero, suc, _+_, _*_, _≤_, _<_}
 use native.Mathlib.Omega.{arith}
@@ -12,7 +12,7 @@ use lib.ListN.{length, getD}
 use borrow.Author.Tests.{leb-true, ltb-true, leb-false, ltb-false, eqb-true, not-true, not-false}
 use Rattle.raster.specs.Limits.{maxSide, maxQ, maxCount}
 use Rattle.raster.specs.Refusal.{firstOf}
-use Rattle.raster.specs.RefusalLaws.{first-every}
+use Rattle.raster.specs.RefusalLaws.{every, first-every}
 use Rattle.raster.specs.Tests.{and-left, and-right, or-left, or-right}
 use Rattle.session.specs.declared.Session.{Session}
 use Rattle.session.specs.State.{side, cutterSound, mapSound, sheetSound, sound, active}
@@ -59,12 +59,8 @@ lowered-says s fine l =
 
 -- ---- a table that answers 0: none of its conditions holds
 
--- no number of it is 0
-abbrev numbered : List (Bool × ℕ) → Bool
-numbered [] = true
-numbered ((when, number) ∷ rest) = ltb 0 number && numbered rest
-
-fails : (table : List (Bool × ℕ)) → numbered table ≡ true → firstOf table ≡ 0 → (row : ℕ) → getD table row (false, 0) .0 ≡ false
+-- where no number of it is 0, row by row
+fails : (table : List (Bool × ℕ)) → every (ltb 0) table ≡ true → firstOf table ≡ 0 → (row : ℕ) → getD table row (false, 0) .0 ≡ false
 unfolding firstOf
 fails [] n e row = refl
 fails ((true, number) ∷ rest) n e row = absurd (omega (arith, ltb-true 0 number (and-left (ltb 0 number) _ n)))
