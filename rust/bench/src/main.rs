@@ -1,5 +1,5 @@
 //! Times the library beside plain Rust and prints a table. The number of rounds may be given, and then the call that is to be timed alone.
-//! With `--peers` the exact map is timed beside other libraries instead.
+//! With `--peers` the exact map is timed beside other libraries instead, and with `--memory` nothing but writing the lent slices once.
 //!
 //! A round goes once through all boards and runs each contender on each, so that a slow while of the machine hits all alike. The shortest
 //! time counts.
@@ -142,6 +142,18 @@ impl Memory {
     }
 }
 
+/// Makes the call so many frames further down the stack. Where its working rows lie beside the lent slices changes a call's time by a fifth and
+/// more, and another place in each turn lets the shortest time be that of a good one for every contender.
+#[inline(never)]
+fn deep(frames: usize, call: Call, on: &mut Slices) {
+    std::hint::black_box([0_u8; 1_000]);
+    if frames == 0 {
+        call(on);
+    } else {
+        deep(frames - 1, call, on);
+    }
+}
+
 /// A line of the table: a call on a board, and the shortest time of each contender.
 struct Line {
     what: &'static str,
@@ -167,7 +179,7 @@ impl Line {
         for (place, on) in slices.iter_mut().enumerate() {
             let which = (turn + place) % self.calls.len();
             let start = Instant::now();
-            self.calls[which](on);
+            deep(turn % 16, self.calls[which], on);
             self.best[which] = self.best[which].min(start.elapsed());
         }
         for on in &slices[1..] {
@@ -195,6 +207,28 @@ fn board(name: &str, side: usize) -> Board {
     }
 }
 
+/// Times what any expand and shrink must do at least, since both leave the sheet, the map and scratch written: to write these slices once.
+fn write_once(rounds: usize) {
+    println!("writing sheet, map and scratch once, 7 bytes a pixel: ns a pixel, the shortest of {rounds} runs\n");
+    let mut memory = Memory::new(2_048 * 2_048);
+    let mut first = None;
+    for side in SIDES {
+        let board = board("full", side);
+        let mut best = Duration::MAX;
+        for byte in 0..rounds {
+            let on = memory.lend(&board);
+            let start = Instant::now();
+            on.sheet.fill(byte as u8);
+            on.map.fill(byte as i16);
+            on.scratch.fill(byte as i16);
+            best = best.min(start.elapsed());
+            std::hint::black_box(on.map);
+        }
+        let time = best.as_nanos() as f64 / (side * side) as f64;
+        println!("{side:4}  {time:.2}  to 512: {:.2}", time / *first.get_or_insert(time));
+    }
+}
+
 /// A number of the table, or a dash.
 fn cell(number: Option<f64>) -> String {
     number.map_or("–".into(), |number| format!("{number:.2}"))
@@ -206,6 +240,9 @@ fn main() {
     if options.iter().any(|option| option == "--peers") {
         let boards = BOARDS.iter().flat_map(|&name| SIDES.map(|side| (name, board(name, side))));
         return peers::compare(rounds, boards);
+    }
+    if options.iter().any(|option| option == "--memory") {
+        return write_once(rounds);
     }
     let alone = words.get(1);
     let mut lines = Vec::new();
