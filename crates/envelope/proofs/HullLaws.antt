@@ -12,7 +12,7 @@ use mathlib.Core.List.{List}
 use lib.ListN.{getD, set, length}
 use lib.Seq.{getD-set-same, getD-set-other}
 use borrow.Author.Tests.{leb-true, leb-false, le-leb, lt-leb}
-use Rattle.envelope.specs.Best.{price, Site, better, bestSite}
+use Rattle.envelope.specs.Best.{noCost, noSite, price, Site, better, bestSite}
 use Rattle.envelope.specs.BestLaws.{order, price-sum, better-none, better-first, better-new, better-old, Least, best-found}
 use Rattle.envelope.specs.Stack.{holder, Built}
 use Rattle.envelope.specs.Hull.{heightOf, over, crossing, Among, Hull, Half, Popped, Started}
@@ -92,7 +92,7 @@ module _ (G : List ℕ) (x s k : ℕ) (l : s < k) where
             omega arith
 
 -- a site that another beats at x is not the best there
-beaten : (G : List ℕ) (k x s t : ℕ) → k ≤ 65535 → t < k → Site G t → ((t < s) × (price G x t ≤ price G x s)) ⊎ (price G x t < price G x s) → bestSite G k x ≡ s → ⊥
+beaten : (G : List ℕ) (k x s t : ℕ) → k ≤ noSite → t < k → Site G t → ((t < s) × (price G x t ≤ price G x s)) ⊎ (price G x t < price G x s) → bestSite G k x ≡ s → ⊥
 beaten G k x s t n l i h e = ⊎-elim (λ f. f .1 t l i) (λ f. against f h) (best-found G k x n)
   where
     against : Least G k x (bestSite G k x) → ((t < s) × (price G x t ≤ price G x s)) ⊎ (price G x t < price G x s) → ⊥
@@ -107,9 +107,9 @@ among-less site c b p m never = elim (ℕ-discrete (m .entry) (c - 1)) [ yes e �
 half-less : (G : List ℕ) (k : ℕ) (site : List ℕ) (c : ℕ) → 0 < c → ((x : ℕ) → bestSite G (k + 1) x ≡ getD site (c - 1) 0 → ⊥) → Half G k site c → Half G k site (c - 1)
 half-less G k site c p never half x = ⊎-elim (λ e. inl e) (λ m. inr (among-less site c _ p m (never x))) (half x)
 
-module _ (G : List ℕ) (k : ℕ) (site : List ℕ) (c : ℕ) (h : Hull G k site c) (small : k < 65535) where
+module _ (G : List ℕ) (k : ℕ) (site : List ℕ) (c : ℕ) (h : Hull G k site c) (small : k < noSite) where
   -- the place k is no site
-  pub hull-skip : 4294967295 ≤ getD G k 0 → Hull G (k + 1) site c
+  pub hull-skip : noCost ≤ getD G k 0 → Hull G (k + 1) site c
   unfolding bestSite
   hull-skip i =
       record {
@@ -128,7 +128,7 @@ module _ (G : List ℕ) (k : ℕ) (site : List ℕ) (c : ℕ) (h : Hull G k site
     unfolding bestSite
     half-all x = rw (add-one k) (⊎-elim first among (h .holds x))
       where
-        first : bestSite G k x ≡ 65535 → (better G x (bestSite G k x) k ≡ k) ⊎ Among site c (better G x (bestSite G k x) k)
+        first : bestSite G k x ≡ noSite → (better G x (bestSite G k x) k ≡ k) ⊎ Among site c (better G x (bestSite G k x) k)
         first e = inl (better-first G x (bestSite G k x) k i e)
 
         among : Among site c (bestSite G k x) → (better G x (bestSite G k x) k ≡ k) ⊎ Among site c (better G x (bestSite G k x) k)
@@ -224,7 +224,7 @@ hull-none G site =
     }
 
 -- the hull with its starts is the envelope
-module _ (G : List ℕ) (n : ℕ) (site : List ℕ) (count : ℕ) (start : List ℕ) (c : ℕ) (h : Hull G n site count) (s : Started G n site count start c) (small : n ≤ 65535) where
+module _ (G : List ℕ) (n : ℕ) (site : List ℕ) (count : ℕ) (start : List ℕ) (c : ℕ) (h : Hull G n site count) (s : Started G n site count start c) (small : n ≤ noSite) where
   module _ (x : ℕ) (on : x < n) where
     -- what entry j costs at x
     abbrev cost : ℕ → ℕ
@@ -269,7 +269,7 @@ module _ (G : List ℕ) (n : ℕ) (site : List ℕ) (count : ℕ) (start : List 
     lowest : (j : ℕ) → j < count → ((i : ℕ) → suc i ≡ j → cost j < cost i) → (suc j < count → cost j ≤ cost (suc j)) → getD site j 0 ≡ bestSite G n x
     lowest j l down up = ⊎-elim (λ e. absurd (nobody e)) (λ m. found m) (h .holds x)
       where
-        nobody : bestSite G n x ≡ 65535 → ⊥
+        nobody : bestSite G n x ≡ noSite → ⊥
         nobody e = ⊎-elim (λ f. f .1 (getD site j 0) (h .seen j l) (h .real j l)) (λ f. omega (arith, e, f .below)) (best-found G n x small)
 
         earlier : (i : ℕ) → i < j → bestSite G n x ≡ getD site i 0 → ⊥

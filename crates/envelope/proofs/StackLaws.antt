@@ -7,9 +7,10 @@ use mathlib.Core.List.{List}
 use lib.ListN.{getD}
 use borrow.Author.Tests.{le-leb, lt-leb}
 use Rattle.envelope.specs.Stack.{holder}
+use Rattle.envelope.specs.Best.{noSite}
 
 -- with no entry nothing holds x
-pub holder-none : (site start : List ℕ) (x : ℕ) → holder site start 0 x ≡ 65535
+pub holder-none : (site start : List ℕ) (x : ℕ) → holder site start 0 x ≡ noSite
 unfolding holder
 holder-none site start x = refl
 
@@ -57,5 +58,5 @@ module _ {n : ℕ} {site start : List ℕ} {count : ℕ} where
     }
 
   -- no entry is left: nothing holds the first places
-  pub unstack-all : {c to : ℕ} → Unstacked n site start count c to → c ≡ 0 → (x : ℕ) → x < to → holder site start count x ≡ 65535
+  pub unstack-all : {c to : ℕ} → Unstacked n site start count c to → c ≡ 0 → (x : ℕ) → x < to → holder site start count x ≡ noSite
   unstack-all u z x l = u .left x l ∙ rw z (holder-none site start x)

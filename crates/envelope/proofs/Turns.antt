@@ -11,7 +11,7 @@ use mathlib.Core.Logic.{⊎-elim}
 use mathlib.Core.List.{List}
 use lib.ListN.{getD, set, length}
 use lib.Seq.{getD-set-same, getD-set-other}
-use Rattle.envelope.specs.Best.{Site}
+use Rattle.envelope.specs.Best.{noCost, Site}
 use Rattle.envelope.specs.BestLaws.{order}
 use Rattle.envelope.specs.Hull.{heightOf, over, crossing, Hull, Half, Popped, Started}
 use Rattle.envelope.proofs.HullLaws.{under-upward, half-all, half-over, half-lower, hull-none, hull-skip, hull-push}
@@ -107,7 +107,7 @@ pub hulled-none : {G : List ℕ} {n : ℕ} {site : List ℕ} → Hulled G n 0 si
 hulled-none {G} {n} {site} = (omega arith, (hull-none G site, λ z. absurd (omega arith)))
 
 module _ {G : List ℕ} {n k : ℕ} {site : List ℕ} {count top : ℕ} (p : Hulled G n k site count top) where
-  pub hulled-skip : {g : ℕ} → n ≤ 2048 → k < n → g ≡ getD G k 0 → 4294967295 ≤ g → Hulled G n (k + 1) site count top
+  pub hulled-skip : {g : ℕ} → n ≤ 2048 → k < n → g ≡ getD G k 0 → noCost ≤ g → Hulled G n (k + 1) site count top
   hulled-skip m l q i = (omega arith, (hull-skip G k site count (p .1 .0) (omega arith) (omega arith), p .1 .1))
 
   pub hulled-push : {site′ : List ℕ} {count′ : ℕ} → k < n → Hull G (k + 1) site′ count′ × (getD site′ (count′ - 1) 0 ≡ k) → Hulled G n (k + 1) site′ count′ k

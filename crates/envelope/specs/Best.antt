@@ -1,5 +1,5 @@
 -- The lower envelope of unit parabolas along a line: at each place x the site of least cost, among equals the least site. A line's costs are a list
--- G; the place k is a site exactly if its cost is below 4294967295.
+-- G; the place k is a site exactly if its cost is below `noCost`.
 -- Assumes nothing.
 use Prim.Native.Nat.{ℕ, zero, suc, _+_, _*_, _<_, _≤_}
 use mathlib.Core.Bool.{cond}
@@ -7,6 +7,13 @@ use mathlib.Core.List.{List}
 use lib.ListN.{getD, length}
 use lib.Dec.{ltb, eqb}
 use Rattle.raster.specs.Distance.{gap}
+
+-- the cost of a place that is no site, and what stands for a site where there is none
+abbrev pub noCost : ℕ
+noCost = 4294967295
+
+abbrev pub noSite : ℕ
+noSite = 65535
 
 -- what a site at k with cost g costs at x
 unfoldable pub priceOf : ℕ → ℕ → ℕ → ℕ
@@ -18,15 +25,15 @@ price G x k = priceOf x k (getD G k 0)
 
 -- the place k is a site
 abbrev pub Site : List ℕ → ℕ → Type 0
-Site G k = getD G k 0 < 4294967295
+Site G k = getD G k 0 < noCost
 
--- of the best so far (65535: none) and the place k, the one to keep at x: k only if it is a site and costs strictly less
+-- of the best so far (`noSite`: none) and the place k, the one to keep at x: k only if it is a site and costs strictly less
 unfoldable pub better : List ℕ → ℕ → ℕ → ℕ → ℕ
-better G x b k = cond (ltb (getD G k 0) 4294967295) (cond (eqb b 65535) k (cond (ltb (price G x k) (price G x b)) k b)) b
+better G x b k = cond (ltb (getD G k 0) noCost) (cond (eqb b noSite) k (cond (ltb (price G x k) (price G x b)) k b)) b
 
--- the best site at x among the places 0 .. n - 1, in that order; 65535 if none of them is a site
+-- the best site at x among the places 0 .. n - 1, in that order; `noSite` if none of them is a site
 unfoldable pub bestSite : List ℕ → ℕ → ℕ → ℕ
-bestSite G zero x = 65535
+bestSite G zero x = noSite
 bestSite G (suc k) x = better G x (bestSite G k x) k
 
 -- what the envelope asks of a line: at most 2048 places, and that many elements in the costs and the two working slices

@@ -8,7 +8,7 @@ use mathlib.Core.Bool.{Bool, false}
 use mathlib.Core.List.{List}
 use lib.ListN.{getD}
 use lib.Dec.{leb}
-use Rattle.envelope.specs.Best.{Site, bestSite}
+use Rattle.envelope.specs.Best.{noSite, Site, bestSite}
 
 -- the point of the place k stands at k, so high
 unfoldable pub heightOf : List ℕ → ℕ → ℕ
@@ -37,7 +37,7 @@ pub record Hull (G : List ℕ) (k : ℕ) (site : List ℕ) (c : ℕ) : Type 0 wh
   pub rising : (j : ℕ) → suc j < c → getD site j 0 < getD site (suc j) 0
   pub upward : (j : ℕ) → suc j < c → heightOf G (getD site j 0) ≤ heightOf G (getD site (suc j) 0)
   pub convex : (j : ℕ) → suc (suc j) < c → over G (getD site j 0) (getD site (suc j) 0) (getD site (suc (suc j)) 0) ≡ false
-  pub holds : (x : ℕ) → (bestSite G k x ≡ 65535) ⊎ Among site c (bestSite G k x)
+  pub holds : (x : ℕ) → (bestSite G k x ≡ noSite) ⊎ Among site c (bestSite G k x)
 
 -- once the site k has come, the best is k or one of the first c entries
 abbrev pub Half : List ℕ → (k : ℕ) → List ℕ → (c : ℕ) → Type 0

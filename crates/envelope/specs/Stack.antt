@@ -7,11 +7,11 @@ use mathlib.Core.Bool.{cond}
 use mathlib.Core.List.{List}
 use lib.ListN.{getD}
 use lib.Dec.{leb}
-use Rattle.envelope.specs.Best.{Site, bestSite}
+use Rattle.envelope.specs.Best.{noSite, Site, bestSite}
 
--- the site that holds x, of the first c entries; 65535 if none does
+-- the site that holds x, of the first c entries; `noSite` if none does
 unfoldable pub holder : List ℕ → List ℕ → ℕ → ℕ → ℕ
-holder site start zero x = 65535
+holder site start zero x = noSite
 holder site start (suc j) x = cond (leb (getD start j 0) x) (getD site j 0) (holder site start j x)
 
 -- the first c entries are sites of the line

@@ -17,7 +17,7 @@ use Rattle.raster.specs.Limits.{maxSide}
 use Rattle.raster.specs.Pixels.{Mask}
 use Rattle.raster.specs.Vector.{isMark}
 use Rattle.raster.specs.VectorLaws.{mark-abs, way-abs, way-ends}
-use Rattle.envelope.specs.Best.{priceOf, price, Site, bestSite}
+use Rattle.envelope.specs.Best.{noCost, noSite, priceOf, price, Site, bestSite}
 use Rattle.envelope.specs.BestLaws.{Least, Found, best-found}
 use Rattle.exact.specs.Nearest.{Exact, to-nearest, bare-sheet}
 use Rattle.exact.specs.Ways.{costOf, across, along}
@@ -27,7 +27,7 @@ use Rattle.exact.proofs.Foot.{Foot, row, no-row}
 way-cost : (y r h : ℕ) → h ≤ maxSide → y < h → r < h → costOf (pos r -ℤ pos y) ≡ gap y r * gap y r
 way-cost y r h tall a b = go (isMark (pos r -ℤ pos y)) refl
   where
-    go : (t : Bool) → isMark (pos r -ℤ pos y) ≡ t → cond t 4294967295 (natAbs (pos r -ℤ pos y) * natAbs (pos r -ℤ pos y)) ≡ gap y r * gap y r
+    go : (t : Bool) → isMark (pos r -ℤ pos y) ≡ t → cond t noCost (natAbs (pos r -ℤ pos y) * natAbs (pos r -ℤ pos y)) ≡ gap y r * gap y r
     go true e = absurd (omega (arith, mark-abs (pos r -ℤ pos y) e, way-abs y r, gap-below y r h a b))
     go false e = rw (way-abs y r)
 
@@ -88,4 +88,4 @@ module _ (copper : Mask) (w h : ℕ) (wide : w ≤ maxSide) (tall : h ≤ maxSid
     where
       go : {b : ℕ} → Found G w x b → Exact copper w h x y (across b x) (along v b)
       go (inl (e, none)) = rw e (bare-sheet (λ i j c. none i (c .across) (column i j c .0)) refl)
-      go {b} (inr l) = rw (ne-eqb b 65535 (omega (arith, l .below))) (nearest-site l (feet b (l .below)) (costs b (l .below)))
+      go {b} (inr l) = rw (ne-eqb b noSite (omega (arith, l .below))) (nearest-site l (feet b (l .below)) (costs b (l .below)))

@@ -14,6 +14,7 @@ use mir.Val.{SFits, ofZ}
 use borrow.Author.Tests.{ltb-true, ltb-false, leb-false, le-leb, lt-leb, ne-eqb}
 use Rattle.raster.specs.Vector.{Short, mark, isMark}
 use Rattle.raster.proofs.Signed.{widen, short-wide}
+use Rattle.envelope.specs.Best.{noCost}
 use Rattle.exact.specs.Ways.{farther, shorter, costOf, Room, isZero}
 
 -- 32 bits hold a component
@@ -66,7 +67,7 @@ zero-bits (negsuc n) f = ne-eqb (65536 - suc n) 0 (omega arith)
 
 -- ---- what a column costs
 
-pub cost-none : (v : ℤ) → isMark v ≡ true → 4294967295 ≡ costOf v
+pub cost-none : (v : ℤ) → isMark v ≡ true → noCost ≡ costOf v
 cost-none v e = rw e
 
 pub cost-some : (v : ℤ) → isMark v ≡ false → natAbs v * natAbs v ≡ costOf v

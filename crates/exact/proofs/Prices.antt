@@ -9,7 +9,7 @@ use lib.IntN.{ℤ, pos}
 use lib.ListN.{length, getD, set, length-set}
 use Rattle.raster.proofs.Writing.{set-more}
 use Rattle.raster.specs.PixelsLaws.{tabulate-at}
-use Rattle.envelope.specs.Best.{better, bestSite}
+use Rattle.envelope.specs.Best.{noSite, better, bestSite}
 use Rattle.envelope.specs.BestLaws.{best-found}
 use Rattle.exact.specs.Ways.{costOf, along, wayAt, rowCosts, costsOf, Written}
 use Rattle.exact.proofs.Runs.{run-same}
@@ -37,7 +37,7 @@ module _ {A : Type 0} {d : A} {f : ℕ → A} {n : ℕ} {before : List A} where
 -- ---- the best column goes by the costs of the row alone
 
 module _ (G H : List ℕ) (x : ℕ) where
-  pub best-same : (k : ℕ) → k ≤ 65535 → ((j : ℕ) → j < k → getD G j 0 ≡ getD H j 0) → bestSite G k x ≡ bestSite H k x
+  pub best-same : (k : ℕ) → k ≤ noSite → ((j : ℕ) → j < k → getD G j 0 ≡ getD H j 0) → bestSite G k x ≡ bestSite H k x
   unfolding bestSite better
   best-same zero small same = refl
   best-same (suc k) small same =

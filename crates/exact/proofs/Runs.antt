@@ -10,15 +10,16 @@ use lib.IntN.{ℤ, pos, _-ℤ_, +ℤ-invr}
 use borrow.Author.Tests.{ne-eqb}
 use Rattle.raster.specs.Map.{Inside, dxAt, dyAt, put}
 use Rattle.raster.specs.MapLaws.{put-length, put-dx, put-dy, put-dx-other, put-dy-other}
+use Rattle.envelope.specs.Best.{noSite}
 use Rattle.exact.specs.Ways.{across, along, Written}
 
 -- a column below 2,048 is one, not none
 module _ (s : ℕ) (few : s < 2048) where
   pub across-site : (x : ℕ) → pos s -ℤ pos x ≡ across s x
-  across-site x = rw (ne-eqb s 65535 (omega arith))
+  across-site x = rw (ne-eqb s noSite (omega arith))
 
   pub along-site : (v : ℕ → ℤ) → v s ≡ along v s
-  along-site v = rw (ne-eqb s 65535 (omega arith))
+  along-site v = rw (ne-eqb s noSite (omega arith))
 
 -- and the vector to itself is none at all
 pub across-self : (x : ℕ) → x < 2048 → (pos 0 ≡ across x x) × (pos 0 ≡ along (λ b. pos 0) x)

@@ -16,7 +16,7 @@ use Rattle.raster.specs.Distance.{gap}
 use borrow.Author.Tests.{eqb-true}
 use Rattle.raster.specs.Tests.{and-left, and-right}
 use Rattle.raster.specs.DistanceLaws.{gap-self, square-le}
-use Rattle.envelope.specs.Best.{priceOf, price, Site, bestSite}
+use Rattle.envelope.specs.Best.{noSite, priceOf, price, Site, bestSite}
 use Rattle.envelope.specs.BestLaws.{Found, best-found}
 use Rattle.exact.specs.Ways.{isZero, part, copperFrom}
 
@@ -99,7 +99,7 @@ part-at lo hi s j d l = getD-take (hi - lo) _ j d l ∙ getD-drop lo s j d
 
 -- the site b of the part is the site c of the line, or both are none
 abbrev pub Same : (lo hi b c : ℕ) → Type 0
-Same lo hi b c = ((b ≡ 65535) × (c ≡ 65535)) ⊎ ((b < hi - lo) × (c ≡ lo + b))
+Same lo hi b c = ((b ≡ noSite) × (c ≡ noSite)) ⊎ ((b < hi - lo) × (c ≡ lo + b))
 
 module _ (G : List ℕ) (n lo hi : ℕ) (few : n ≤ 2048) (p : Part G n lo hi) (j : ℕ) (inside : j < hi - lo) where
   -- the part, its costs and prices

@@ -12,7 +12,7 @@ use lib.Signed.{mag}
 use Rattle.raster.specs.Pixels.{Mask, index, tabulate}
 use Rattle.raster.specs.Vector.{mark, isMark}
 use Rattle.raster.specs.Map.{dxAt, dyAt}
-use Rattle.envelope.specs.Best.{bestSite}
+use Rattle.envelope.specs.Best.{noCost, noSite, bestSite}
 
 -- ---- within a column
 
@@ -47,7 +47,7 @@ wayOf copper h x y = shorter (up copper x y) (down copper h x y)
 
 -- what a column with that way costs: its square, and no site where there is none
 abbrev pub costOf : ℤ → ℕ
-costOf v = cond (isMark v) 4294967295 (natAbs v * natAbs v)
+costOf v = cond (isMark v) noCost (natAbs v * natAbs v)
 
 -- ---- the two passes over the rows
 
@@ -94,12 +94,12 @@ rowCosts m base w = tabulate w (λ k. costOf (wayAt m base k))
 unfoldable pub costsOf : List ℤ → (w : ℕ) → List ℕ
 costsOf ways w = tabulate w (λ k. costOf (getD ways k (pos 0)))
 
--- the vector to the column b (65535: none), whose way is v b
+-- the vector to the column b (`noSite`: none), whose way is v b
 abbrev pub across : (b x : ℕ) → ℤ
-across b x = cond (eqb b 65535) mark (pos b -ℤ pos x)
+across b x = cond (eqb b noSite) mark (pos b -ℤ pos x)
 
 abbrev pub along : (v : ℕ → ℤ) (b : ℕ) → ℤ
-along v b = cond (eqb b 65535) mark (v b)
+along v b = cond (eqb b noSite) mark (v b)
 
 -- the pixels from base + from to base + to − 1 have the vectors to the columns that `best` names, and nothing else changes
 pub record Written (base from to : ℕ) (v : ℕ → ℤ) (best : ℕ → ℕ) (before after : List ℤ) : Type 0 where

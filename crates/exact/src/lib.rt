@@ -12,7 +12,7 @@ ghost use lib.IntN.{pos, negsuc, _-ℤ_};
 ghost use lib.ListN.{length, getD};
 ghost use Rattle.raster.specs.Sheet.{copperOf};
 ghost use Rattle.raster.specs.Vector.{Short};
-ghost use Rattle.envelope.specs.Best.{bestSite, Line};
+ghost use Rattle.envelope.specs.Best.{noSite, bestSite, Line};
 ghost use Rattle.envelope.specs.Stack.{holder};
 ghost use Rattle.exact.specs.Nearest.{exactMap, cleared};
 ghost use Rattle.exact.specs.Ways.{farther, up, shorter, costOf, Room, isZero, Spread, Held, shortened, wayAt, rowCosts, costsOf, Written, copperFrom, CopperRun, CopperEnd, Next, Solved};
@@ -186,7 +186,7 @@ fn write_run(map: &mut [i16], base: usize, from: usize, to: usize, s: usize, v: 
 // The first n pixels of the row are unlabelled.
 fn clear_run(map: &mut [i16], base: usize, n: usize)
     requires { ⌜ 2 * (base + n) ≤ length (now map) ⌝ }
-    ensures { λ _. ⌜ Written base 0 n (λ b. pos 0) (λ x. 65535) (now (map .entry)) (now (map .exit)) ⌝ }
+    ensures { λ _. ⌜ Written base 0 n (λ b. pos 0) (λ x. noSite) (now (map .entry)) (now (map .exit)) ⌝ }
 {
     for x in 0..n {
         raster::put_at(map, base + x, -32768, -32768);

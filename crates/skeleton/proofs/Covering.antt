@@ -18,7 +18,7 @@ use Rattle.raster.specs.Map.{sizeAt, unlabelledAt}
 use Rattle.raster.specs.Pixels.{index}
 use Rattle.raster.specs.Sheet.{copperOf}
 use Rattle.raster.specs.Tests.{and-left, and-right, same}
-use Rattle.envelope.specs.Best.{priceOf, price, Site, bestSite}
+use Rattle.envelope.specs.Best.{noCost, noSite, priceOf, price, Site, bestSite}
 use Rattle.envelope.specs.BestLaws.{Least, best-found}
 use Rattle.skeleton.specs.Skeleton.{covers}
 use Rattle.skeleton.specs.Passes.{rowOf, line, costOf, Priced, Costs, hitBy}
@@ -26,18 +26,18 @@ use Rattle.skeleton.specs.Passes.{rowOf, line, costOf, Priced, Costs, hi
 -- ---- what a pixel costs
 
 -- a marked, labelled pixel costs v, and a site is one
-site-open : (a b : Bool) (v : ℕ) → cond a 4294967295 (cond b 4294967295 v) < 4294967295 → (not a && not b ≡ true) × (cond a 4294967295 (cond b 4294967295 v) ≡ v)
+site-open : (a b : Bool) (v : ℕ) → cond a noCost (cond b noCost v) < noCost → (not a && not b ≡ true) × (cond a noCost (cond b noCost v) ≡ v)
 site-open true b v l = absurd (omega arith)
 site-open false true v l = absurd (omega arith)
 site-open false false v l = (refl, refl)
 
-open-cost : (a b : Bool) (v : ℕ) → not a && not b ≡ true → cond a 4294967295 (cond b 4294967295 v) ≡ v
+open-cost : (a b : Bool) (v : ℕ) → not a && not b ≡ true → cond a noCost (cond b noCost v) ≡ v
 open-cost true b v e = absurd (false≢true e)
 open-cost false true v e = absurd (false≢true e)
 open-cost false false v e = refl
 
 -- a site costs at most 2^31
-cost-range : (a b : Bool) (v : ℕ) → v ≤ 2147483648 → cond a 4294967295 (cond b 4294967295 v) < 4294967295 → cond a 4294967295 (cond b 4294967295 v) ≤ 2147483648
+cost-range : (a b : Bool) (v : ℕ) → v ≤ 2147483648 → cond a noCost (cond b noCost v) < noCost → cond a noCost (cond b noCost v) ≤ 2147483648
 cost-range a b v s l = rw (site-open a b v l .1) s
 
 module _ {m : List ℤ} {marks : List ℕ} {base w : ℕ} {cost : List ℕ} where
@@ -51,10 +51,10 @@ module _ {m : List ℤ} {marks : List ℕ} {base : ℕ} where
   priced-none = record { costs = λ k l. absurd (omega arith); sizes = λ k l. absurd (omega arith) }
 
   pub priced-more : {k v : ℕ} {cost : List ℕ} → Priced m marks base k cost → k < length cost
-      → (v ≡ costOf m marks (base + k)) × (v < 4294967295 → sizeAt m (base + k) ≤ 2147483648) → Priced m marks base (k + 1) (set cost k v)
+      → (v ≡ costOf m marks (base + k)) × (v < noCost → sizeAt m (base + k) ≤ 2147483648) → Priced m marks base (k + 1) (set cost k v)
   priced-more {k} {v} {cost} p l e = record {
     costs = set-more 0 (λ j u. u ≡ costOf m marks (base + j)) (λ j. j) cost l (λ j a. omega arith) (e .0) (p .costs);
-    sizes = set-more 0 (λ j u. u < 4294967295 → sizeAt m (base + j) ≤ 2147483648) (λ j. j) cost l (λ j a. omega arith) (e .1) (p .sizes);
+    sizes = set-more 0 (λ j u. u < noCost → sizeAt m (base + j) ≤ 2147483648) (λ j. j) cost l (λ j a. omega arith) (e .1) (p .sizes);
   }
 
 -- ---- a row and the pixels of another, z
@@ -86,15 +86,15 @@ module _ {m : List ℤ} {w : ℕ} {marks cost : List ℕ} (h y : ℕ) (p : Price
   unfolding line
   hit-line t k few d = ⊎-elim none least (best-found cost w x (omega arith))
     where
-      none : ((bestSite cost w x ≡ 65535) × ((s : ℕ) → s < w → Site cost s → ⊥)) → hitBy cost t x (bestSite cost w x) k ≡ some w (λ i. covers m w h marks x z i y)
+      none : ((bestSite cost w x ≡ noSite) × ((s : ℕ) → s < w → Site cost s → ⊥)) → hitBy cost t x (bestSite cost w x) k ≡ some w (λ i. covers m w h marks x z i y)
       none n =
-          rw (eq-eqb (bestSite cost w x) 65535 (n .0))
+          rw (eq-eqb (bestSite cost w x) noSite (n .0))
           (same false (some w (λ i. covers m w h marks x z i y)) (λ e. absurd (false≢true e))
           (λ e. let f = some-found w _ e in absurd (n .1 (f .place) (f .below) (from-cover (f .place) (f .below) (f .passes) .0))))
 
       least : Least cost w x (bestSite cost w x) → hitBy cost t x (bestSite cost w x) k ≡ some w (λ i. covers m w h marks x z i y)
       least b =
-          rw (ne-eqb (bestSite cost w x) 65535 (omega (arith, b .below)), d)
+          rw (ne-eqb (bestSite cost w x) noSite (omega (arith, b .below)), d)
           (same (ltb (gap z y * gap z y + price cost x (bestSite cost w x)) 2147483648) (some w (λ i. covers m w h marks x z i y))
           (λ e. some-true w _ (bestSite cost w x) (b .below) (to-cover (bestSite cost w x) (b .below) (b .site) (ltb-true _ _ e)))
           (λ e.

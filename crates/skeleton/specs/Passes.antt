@@ -10,7 +10,7 @@ use lib.ListN.{length, getD}
 use Rattle.raster.specs.Loop.{some}
 use Rattle.raster.specs.Map.{sizeAt, unlabelledAt}
 use Rattle.raster.specs.Pixels.{index}
-use Rattle.envelope.specs.Best.{Site, priceOf}
+use Rattle.envelope.specs.Best.{noCost, noSite, Site, priceOf}
 use Rattle.skeleton.specs.Skeleton.{covers}
 
 -- the t-th row of a pass over h rows, from the bottom up or from the top down
@@ -25,7 +25,7 @@ line m w h marks x y j = some w (λ i. covers m w h marks x y i j)
 
 -- 2^31 less the size of a marked, labelled pixel; any other pixel is no site
 abbrev pub costOf : (m : List ℤ) (marks : List ℕ) (p : ℕ) → ℕ
-costOf m marks p = cond (eqb (getD marks p 0) 0) 4294967295 (cond (unlabelledAt m p) 4294967295 (2147483648 - sizeAt m p))
+costOf m marks p = cond (eqb (getD marks p 0) 0) noCost (cond (unlabelledAt m p) noCost (2147483648 - sizeAt m p))
 
 -- the costs of the row whose first pixel is at base, and sizes that can be taken from 2^31
 pub record Priced (m : List ℤ) (marks : List ℕ) (base w : ℕ) (cost : List ℕ) : Type 0 where
@@ -42,9 +42,9 @@ Costs cost n = (k : ℕ) → k < n → Site cost k → getD cost k 0 ≤ 2147483
 abbrev pub hits : (t x s g k : ℕ) → Bool
 hits t x s g k = ltb ((k - t) * (k - t) + priceOf x s g) 2147483648
 
--- the site b (65535: none) does
+-- the site b (`noSite`: none) does
 abbrev pub hitBy : (cost : List ℕ) (t x b k : ℕ) → Bool
-hitBy cost t x b k = cond (eqb b 65535) false (hits t x b (getD cost b 0) k)
+hitBy cost t x b k = cond (eqb b noSite) false (hits t x b (getD cost b 0) k)
 
 -- from the t-th row on, r says what r₀ says or `hit`
 pub record Raised (t h : ℕ) (hit : ℕ → Bool) (r₀ r : ℕ) : Type 0 where

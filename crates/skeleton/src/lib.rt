@@ -6,7 +6,7 @@ ghost use lib.Dec.{eqb, ltb};
 ghost use lib.ListN.{length, getD};
 ghost use Rattle.raster.specs.Distance.{gap};
 ghost use Rattle.raster.specs.Map.{Inside, sizeAt};
-ghost use Rattle.envelope.specs.Best.{priceOf};
+ghost use Rattle.envelope.specs.Best.{noCost, priceOf};
 ghost use Rattle.envelope.specs.Stack.{Entries, holder};
 ghost use Rattle.skeleton.specs.Skeleton.{kept, skeletonOf, rebuilt};
 ghost use Rattle.skeleton.specs.Rows.{RowWritten};
@@ -1014,7 +1014,7 @@ pub fn skeleton(map: &[i16], out: &mut [u8], w: usize, h: usize)
 // What pixel p costs: an unmarked or unlabelled one is no site.
 fn cost_of(map: &[i16], marks: &[u8], p: usize) -> u32
     requires { ⌜ Inside p (now map) × (p < length (now marks)) ⌝ }
-    ensures { λ r. ⌜ (r ≡ costOf (now (map .entry)) (now (marks .entry)) p) × (r < 4294967295 → sizeAt (now (map .entry)) p ≤ 2147483648) ⌝ }
+    ensures { λ r. ⌜ (r ≡ costOf (now (map .entry)) (now (marks .entry)) p) × (r < noCost → sizeAt (now (map .entry)) p ≤ 2147483648) ⌝ }
 {
     if marks[p] == 0 {
         return 4294967295;

@@ -1,5 +1,6 @@
 -- `exact::clear_run` meets its contract. The invariant: the first x pixels of the row are unlabelled, the rest of the map is as it was.
 -- Assumes nothing.
+use Rattle.envelope.specs.Best.{noSite}
 use mathlib.Core.Path.{_≡_}
 use Prim.Native.Nat.{_-_, _≤_}
 use native.Mathlib.Omega.{arith}
@@ -10,7 +11,7 @@ use Rattle.exact.proofs.clear_run.Statement.{statement}
 use Rattle.exact.proofs.clear_run.Tie as tie
 
 abbrev Inv-loop : tie.InvT-loop
-Inv-loop map₀ base n x₀ map x = Written base 0 x (λ b. pos 0) (λ z. 65535) map₀ map × (x ≤ n)
+Inv-loop map₀ base n x₀ map x = Written base 0 x (λ b. pos 0) (λ z. noSite) map₀ map × (x ≤ n)
 
 abbrev μ-loop : tie.MeasureT-loop
 μ-loop map₀ base n x₀ map x = n - x

@@ -3,7 +3,7 @@
 use Prim.Native.Nat.{_-_, _<_}
 use native.Mathlib.Omega.{arith}
 use borrow.Author.Tests.{ne-eqb}
-use Rattle.envelope.specs.Best.{Site}
+use Rattle.envelope.specs.Best.{noSite, Site}
 use Rattle.envelope.specs.Stack.{holder}
 use Rattle.envelope.proofs.StackLaws.{Unstacked, unstack-none, unstack-top, unstack-more, unstack-all}
 use Rattle.skeleton.specs.Passes.{hitBy, RowRaised}
@@ -52,7 +52,7 @@ loop-again c =
     let f = p .before .before in
     let l = turn (p .before) in
     let i = l .before .loop .inv in
-    let site = ne-eqb (p .place2 .result) 65535 (omega (arith, on-row p, begin l .pre .0)) in
+    let site = ne-eqb (p .place2 .result) noSite (omega (arith, on-row p, begin l .pre .0)) in
     let top = unstack-top (i .0) (omega arith) (f .place .ensures) in (
       unstack-more (i .0) (omega arith) (f .place .ensures) (omega arith) (omega arith),
       lift-join (omega arith) (i .0 .on) (i .1) (r .raise-run .ensures) (λ x a b k. rw (top x a b, ← p .place2 .ensures, site, ← g .cost-at .ensures .0)),
