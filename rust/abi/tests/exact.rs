@@ -78,6 +78,17 @@ fn medium() {
     }
 }
 
+/// Runs of copper of all lengths, at any place of a row.
+#[test]
+fn mostly_copper() {
+    let mut random = Random::new(52);
+    for _ in 0..300 {
+        let (w, h) = (random.between(1, 200), random.between(1, 12));
+        let per_mille = random.between(800, 1_000) as u64;
+        check(&boards::random(w, h, per_mille, &mut random), &mut random);
+    }
+}
+
 #[test]
 fn large() {
     let mut random = Random::new(45);
