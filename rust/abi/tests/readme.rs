@@ -1,4 +1,4 @@
-//! The README's example in Rust, as it stands there; and its example in Rattle stands in the program `session_main`.
+//! The README's example in Rust, as it stands there; and its example in Rattle stands in the program `boards_main`.
 
 const README: &str = include_str!("../../../README.md");
 
@@ -20,7 +20,7 @@ fn blocks() -> Vec<&'static str> {
 
 #[test]
 fn as_written() {
-    let programs = concat!(include_str!("readme.rs"), include_str!("../../../crates/session_main/src/main.rt"));
+    let programs = concat!(include_str!("readme.rs"), include_str!("../../../crates/boards_main/src/main.rt"));
     let blocks = blocks();
     assert!(blocks.len() > 10);
     for line in blocks {

@@ -1,11 +1,11 @@
--- `show::sheet` meets its contract. The invariant: y is at most h.
+-- `boards_main::show_sheet` meets its contract. The invariant: y is at most h.
 -- Assumes nothing.
 use Prim.Native.Nat.{_≤_, _-_, _+_}
 use native.Mathlib.Nat.{mul-le-mul-right}
 use native.Mathlib.Omega.{arith}
 use borrow.Author.Needs.{needs}
-use Rattle.show.proofs.sheet.Statement.{statement}
-use Rattle.show.proofs.sheet.Tie as tie
+use Rattle.boards_main.proofs.show_sheet.Statement.{statement}
+use Rattle.boards_main.proofs.show_sheet.Tie as tie
 
 abbrev Inv-loop : tie.InvT-loop
 Inv-loop sheet w h y₀ y = y ≤ h
@@ -19,7 +19,7 @@ sheet-row-requires c κs =
     let below : l .loop .y + 1 ≤ l .before .before .args .h = omega arith in
     omega (arith, mul-le-mul-right (l .before .before .args .w) below)
 
-pub sheet-spec : {M : Type 1} → statement M
-sheet-spec =
+pub show-sheet-spec : {M : Type 1} → statement M
+show-sheet-spec =
     tie.close
     (tie.spec Inv-loop μ-loop (λ c. search needs) sheet-row-requires (λ c. search needs) (λ c. search needs) (λ c. search needs) (λ c. search needs))
