@@ -1,38 +1,25 @@
--- The working rows of ways and costs: how they start, one column more; and the best column, which goes by the row's costs alone.
+-- The working rows of ways and costs, and the best column, which goes by the row's costs alone.
 -- Assumes nothing.
 use mathlib.Core.Path.{_≡_, refl, sym, ap, _∙_}
 use mathlib.Core.Logic.{⊎-elim}
-use mathlib.Core.List.{List}
-use Prim.Native.Nat.{ℕ, zero, suc, _+_, _<_, _≤_}
+use mathlib.Core.List.{List, _++_}
+use Prim.Native.Nat.{ℕ, zero, suc, _<_, _≤_}
 use native.Mathlib.Omega.{arith}
 use lib.IntN.{ℤ, pos}
-use lib.ListN.{length, getD, set, length-set}
-use Rattle.raster.proofs.Writing.{set-more}
-use Rattle.raster.specs.PixelsLaws.{tabulate-at}
+use lib.ListN.{getD, List·getD-append}
+use Rattle.raster.specs.Pixels.{tabulate}
+use Rattle.raster.specs.PixelsLaws.{tabulate-at, tabulate-length}
 use Rattle.envelope.specs.Best.{noSite, better, bestSite}
 use Rattle.envelope.specs.BestLaws.{best-found}
 use Rattle.exact.specs.Ways.{costOf, along, wayAt, rowCosts, costsOf, Written}
 use Rattle.exact.proofs.Runs.{run-same}
 
--- the first k numbers of a slice are filled with f, and the slice is as long as before
-pub record Filled {A : Type 0} (d : A) (f : ℕ → A) (n : ℕ) (before : List A) (k : ℕ) (after : List A) : Type 0 where
-  pub on : k ≤ n
-  pub long : length after ≡ length before
-  pub at : (j : ℕ) → j < k → getD after j d ≡ f j
-
-module _ {A : Type 0} {d : A} {f : ℕ → A} {n : ℕ} {before : List A} where
-  pub filled-none : Filled d f n before 0 before
-  filled-none = record { on = omega arith; long = refl; at = λ j l. absurd (omega arith) }
-
-  pub filled-more : {k : ℕ} {s : List A} (v : A) → Filled d f n before k s → k < n → k < length s → v ≡ f k → Filled d f n before (k + 1) (set s k v)
-  filled-more {k} {s} v p h i e = record {
-    on = omega arith;
-    long = length-set s k v ∙ p .long;
-    at = set-more d (λ j u. u ≡ f j) (λ j. j) s i (λ j l. omega arith) e (p .at);
-  }
-
-  pub filled-all : {k : ℕ} {s : List A} → Filled d f n before k s → n ≤ k → (j : ℕ) → j < n → getD s j d ≡ f j
-  filled-all p h j l = p .at j (omega (arith, p .on))
+-- what stands in a working row whose first n numbers were written
+pub tabulated : {A : Type 0} (d : A) (n : ℕ) (f : ℕ → A) (rest s : List A) → s ≡ tabulate n f ++ rest → (k : ℕ) → k < n → getD s k d ≡ f k
+tabulated d n f rest s e k l =
+    ap (λ (t : List _). getD t k d) e
+    ∙ List·getD-append (tabulate n f) rest d k (omega (arith, tabulate-length n f))
+    ∙ tabulate-at n f k d l
 
 -- ---- the best column goes by the costs of the row alone
 
@@ -55,6 +42,10 @@ row-cost m base w j l = tabulate-at w _ j 0 l
 pub costs-at : (ways : List ℤ) (w j : ℕ) → j < w → getD (costsOf ways w) j 0 ≡ costOf (getD ways j (pos 0))
 unfolding costsOf
 costs-at ways w j l = tabulate-at w _ j 0 l
+
+pub priced-at : (ways : List ℤ) (n : ℕ) (rest cost : List ℕ) → cost ≡ costsOf ways n ++ rest → (k : ℕ) → k < n → getD cost k 0 ≡ costOf (getD ways k (pos 0))
+unfolding costsOf
+priced-at ways n rest cost e = tabulated 0 n _ rest cost e
 
 -- costs that stand in a working row are as good as the list of them
 pub priced-best : (ways : List ℤ) (cost : List ℕ) (w x : ℕ) → w ≤ 2048 → ((k : ℕ) → k < w → getD cost k 0 ≡ costOf (getD ways k (pos 0)))

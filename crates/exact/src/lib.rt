@@ -6,10 +6,12 @@
 // first, since the vectors of row y stand behind the ways of the rows above it. The working rows are local ones of 2,048 numbers.
 ghost use mathlib.Core.Path.{_≡_};
 ghost use mathlib.Core.Bool.{not, _&&_};
+ghost use mathlib.Core.List.{_++_};
 ghost use Prim.Native.Nat.{ℕ, _+_, _-_, _*_, _≤_, _<_};
 ghost use lib.Dec.{eqb};
 ghost use lib.IntN.{pos, negsuc, _-ℤ_};
-ghost use lib.ListN.{length, getD};
+ghost use lib.ListN.{length, getD, drop};
+ghost use Rattle.raster.specs.Pixels.{tabulate};
 ghost use Rattle.raster.specs.Sheet.{copperOf};
 ghost use Rattle.raster.specs.Vector.{Short};
 ghost use Rattle.envelope.specs.Best.{noSite, bestSite, Line};
@@ -146,7 +148,7 @@ fn way_at(ways: &[i16], i: usize) -> i32
 // The ways of the row that starts at `base`.
 fn copy_row(map: &[i16], base: usize, w: usize, ways: &mut [i16])
     requires { ⌜ (base + w ≤ length (now map)) × (w ≤ length (now ways)) ⌝ }
-    ensures { λ _. ⌜ ((k : ℕ) → k < w → getD (now (ways .exit)) k (pos 0) ≡ wayAt (now (map .entry)) base k) ⌝ }
+    ensures { λ _. ⌜ now (ways .exit) ≡ tabulate w (wayAt (now (map .entry)) base) ++ drop w (now (ways .entry)) ⌝ }
 {
     for k in 0..w {
         ways[k] = map[base + k];
@@ -156,7 +158,7 @@ fn copy_row(map: &[i16], base: usize, w: usize, ways: &mut [i16])
 // The costs of the first n columns.
 fn price_row(ways: &[i16], n: usize, cost: &mut [u32])
     requires { ⌜ (n ≤ length (now ways)) × (n ≤ length (now cost)) ⌝ }
-    ensures { λ _. ⌜ ((k : ℕ) → k < n → getD (now (cost .exit)) k 0 ≡ costOf (getD (now (ways .entry)) k (pos 0))) ⌝ }
+    ensures { λ _. ⌜ now (cost .exit) ≡ costsOf (now (ways .entry)) n ++ drop n (now (cost .entry)) ⌝ }
 {
     for k in 0..n {
         cost[k] = cost_of(way_at(ways, k));

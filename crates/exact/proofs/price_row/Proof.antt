@@ -1,20 +1,20 @@
 -- `exact::price_row` meets its contract. The invariant: the costs of the first k columns stand in the working row.
 -- Assumes nothing.
-use Prim.Native.Nat.{_-_}
+use Prim.Native.Nat.{_-_, _≤_}
 use native.Mathlib.Omega.{arith}
 use lib.IntN.{pos}
 use lib.ListN.{getD}
-use mathlib.Core.Path.{ap, _∙_}
+use mathlib.Core.Path.{_≡_, ap, _∙_}
 use mir.Syntax.{w32}
 use mir.Val.{SFits}
 use mir.ValLaws.{toZ-ofZ}
-use Rattle.exact.specs.Ways.{costOf}
-use Rattle.exact.proofs.Prices.{Filled, filled-none, filled-more, filled-all}
+use Rattle.exact.specs.Ways.{costOf, costsOf}
+use Rattle.raster.proofs.Writing.{Writing, write-none, write-more}
 use Rattle.exact.proofs.price_row.Statement.{statement}
 use Rattle.exact.proofs.price_row.Tie as tie
 
 abbrev Inv-loop : tie.InvT-loop
-Inv-loop ways n cost₀ k₀ cost k = Filled 0 (λ j. costOf (getD ways j (pos 0))) n cost₀ k cost
+Inv-loop ways n cost₀ k₀ cost k = Writing (λ j. costOf (getD ways j (pos 0))) cost₀ k cost × (k ≤ n)
 
 abbrev μ-loop : tie.MeasureT-loop
 μ-loop ways n cost₀ k₀ cost k = n - k
@@ -29,8 +29,11 @@ cost-of-requires c κs = simp (toZ-ofZ, way-fits c) (c .way-at .ensures .1)
 loop-again : tie.Need-loop-again Inv-loop μ-loop
 loop-again c =
     let v = c .before in
-    filled-more (c .cost-of .result) (v .before .before .loop .inv) (omega arith) (omega arith)
-    ((simp (toZ-ofZ, way-fits v) at (c .cost-of .ensures)) ∙ ap costOf (v .way-at .ensures .0))
+    (write-more _ _ (v .before .before .loop .inv .0) (omega arith) ((simp (toZ-ofZ, way-fits v) at (c .cost-of .ensures)) ∙ ap costOf (v .way-at .ensures .0)), omega arith)
+
+returns : tie.Need-returns Inv-loop μ-loop
+unfolding costsOf
+returns c = let l = c .before in let e : l .loop .k ≡ l .before .before .args .n = omega arith in rw e at (l .loop .inv .0 .made)
 
 pub price-row-spec : {M : Type 1} → statement M
 price-row-spec =
@@ -38,7 +41,7 @@ price-row-spec =
     (tie.spec
     Inv-loop
     μ-loop
-    (λ c. filled-none)
+    (λ c. (write-none _ _, omega arith))
     (λ c κs. omega arith)
     cost-of-requires
     (λ c. omega arith)
@@ -47,4 +50,4 @@ price-row-spec =
     (λ c. omega arith)
     loop-again
     (λ c. omega arith)
-    (λ c. filled-all (c .before .loop .inv) (omega arith)))
+    returns)

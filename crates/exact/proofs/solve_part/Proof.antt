@@ -4,7 +4,7 @@ use mathlib.Core.Path.{refl, sym, _∙_}
 use native.Mathlib.Omega.{arith}
 use borrow.Author.Needs.{needs}
 use Rattle.exact.proofs.Parts.{line-to}
-use Rattle.exact.proofs.Prices.{priced-best}
+use Rattle.exact.proofs.Prices.{priced-at, priced-best}
 use Rattle.exact.proofs.Runs.{run-same}
 use Rattle.exact.proofs.solve_part.Statement.{statement}
 use Rattle.exact.proofs.solve_part.Tie as tie
@@ -33,7 +33,7 @@ returns c =
     let p = priced b in
     let s = start p in
     run-same (c .before .write-row .ensures)
-    (λ x i l. (priced-best (s .args .ways .now) (p .price-row .last .1 .1 .0) (s .args .n) x (s .pre .1 .short) (p .price-row .ensures) ∙ sym (b .build .ensures .holds x l), refl))
+    (λ x i l. (priced-best (s .args .ways .now) (p .price-row .last .1 .1 .0) (s .args .n) x (s .pre .1 .short) (priced-at (s .args .ways .now) (s .args .n) _ _ (p .price-row .ensures)) ∙ sym (b .build .ensures .holds x l), refl))
 
 pub solve-part-spec : {M : Type 1} → statement M
 solve-part-spec =

@@ -1,8 +1,9 @@
 -- `exact::solve_row` meets its contract: the row's ways are copied, and it is written by its parts (`row-solved`).
 -- Assumes nothing.
 use native.Mathlib.Omega.{arith}
+use lib.IntN.{pos}
 use borrow.Author.Needs.{needs}
-use Rattle.exact.proofs.Prices.{row-solved}
+use Rattle.exact.proofs.Prices.{tabulated, row-solved}
 use Rattle.exact.proofs.solve_row.Statement.{statement}
 use Rattle.exact.proofs.solve_row.Tie as tie
 
@@ -19,7 +20,7 @@ returns : tie.Need-returns
 returns c =
     let r = c .before .before .before .before .before .before .before in
     let p = r .before .before .before .before .before .before .before in
-    row-solved (p .copy-row .last .1 .1 .1 .0) (start p .pre .0 .1) (p .copy-row .ensures) (r .solve-parts .ensures)
+    row-solved (p .copy-row .last .1 .1 .1 .0) (start p .pre .0 .1) (tabulated (pos 0) (start p .args .w) _ _ _ (p .copy-row .ensures)) (r .solve-parts .ensures)
 
 pub solve-row-spec : {M : Type 1} → statement M
 solve-row-spec =
