@@ -18,8 +18,9 @@ use Rattle.raster.specs.Sheet.{copperOf}
 use Rattle.raster.specs.Vector.{size, unlabelled}
 use Rattle.scan.proofs.Theorems as scan
 use Rattle.exact.proofs.Theorems as exact
+use Rattle.cutter.specs.Gates.{gateOf, passesAt}
 use Rattle.session.specs.declared.Session.{Session}
-use Rattle.session.specs.Calls.{mapOf, gateOf, passesAt}
+use Rattle.session.specs.Calls.{mapOf}
 use Rattle.guarantee.specs.Claims.{within}
 
 -- what a gate g promises at a pixel whose vector is (dx, dy)

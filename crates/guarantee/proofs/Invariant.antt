@@ -11,9 +11,10 @@ use borrow.Author.Tests.{ne-eqb}
 use Rattle.raster.specs.Distance.{apart, Copper, Clear}
 use Rattle.raster.specs.Pixels.{index}
 use Rattle.raster.specs.Sheet.{copperOf}
+use Rattle.cutter.specs.Gates.{passesAt}
 use Rattle.session.specs.declared.Session.{Session}
 use Rattle.session.specs.State.{sound, active}
-use Rattle.session.specs.Calls.{mapOf, passesAt}
+use Rattle.session.specs.Calls.{mapOf}
 use Rattle.session.proofs.Granted.{Limited, active-limits}
 use Rattle.guarantee.specs.Board.{Board}
 use Rattle.guarantee.specs.World.{World}

@@ -11,17 +11,20 @@ use lib.IntN.{ℤ}
 use borrow.Author.Tests.{eqb-true, eqb-false, ne-eqb, leb-true, not-true, not-false}
 use Rattle.raster.specs.LoopLaws.{some-found, some-false}
 use Rattle.raster.specs.Distance.{Clear}
-use Rattle.raster.specs.Pixels.{Mask, index}
+use Rattle.raster.specs.Pixels.{Mask}
 use Rattle.raster.specs.Tests.{and-left}
 use Rattle.raster.specs.Sheet.{copperOf, bare, covers}
 use Rattle.raster.specs.Map.{unmapped}
 use Rattle.raster.specs.Refusal.{lastOf}
+use Rattle.cutter.specs.Directions.{columnAfter, rowAfter}
+use Rattle.cutter.specs.Gates as cutter
+use Rattle.cutter.specs.Gates.{mayStand, blocked}
+use Rattle.cutter.proofs.Walk.{on-the-way}
 use Rattle.session.specs.declared.Session.{Session}
 use Rattle.session.specs.State.{sound, active, stale, builtBy, cutterAs}
-use Rattle.session.specs.Directions.{columnAfter, rowAfter}
 use Rattle.session.specs.Calls as session
-use Rattle.session.specs.Calls.{buildAnswer, placeAnswer, runAnswer, blocked}
-use Rattle.session.proofs.Granted.{open-granted, fill-granted, build-granted, Building, place-granted, run-granted, Running, on-the-way, resize-granted}
+use Rattle.session.specs.Calls.{cutterOf, ownCutter, buildAnswer, placeAnswer, runAnswer}
+use Rattle.session.proofs.Granted.{open-granted, fill-granted, build-granted, Building, place-granted, run-granted, Running, resize-granted}
 use Rattle.guarantee.specs.Board.{Lent, Call, opening, paint, erase, build, place, run, lift, expand, shrink, skeleton, rebuild, aside, Cutter, up, down, Board, recoppered, withCutter, moved, done, feed}
 use Rattle.guarantee.specs.World.{World, world, lentTo, answer, left, after}
 use Rattle.guarantee.specs.Claims.{Along, Safe, Stopped, Fair, Claim, SameCutter, Free}
@@ -167,7 +170,7 @@ module _ {b : Board} {w : World} (inv : Inv b w) where
 
   module _ (e : ℕ) (scratch : List ℤ) where
     abbrev over : Bool
-    over = not (eqb e 1) && session.scanOf s (w .sheet) e .over
+    over = session.overflows s (w .sheet) e
 
     abbrev refusal : ℕ
     refusal = session.buildRefusal s (w .sheet) (w .map) scratch e
@@ -241,7 +244,7 @@ module _ {b : Board} {w : World} (inv : Inv b w) where
   pub place-step : (x y q : ℕ) → Step (place x y q) b w
   unfolding placeAnswer
   place-step x y q =
-      gate-step (place x y q) (session.placeRefusal s (w .map) x y q) (not (session.passesAt (s .engine) (w .map) (index (s .width) x y) q)) refl
+      gate-step (place x y q) (session.placeRefusal s (w .map) x y q) (not (mayStand (cutterOf s x y q) (w .map))) refl
       (place-quiet s (w .map) x y q)
       (λ z p.
       let g = place-granted s (w .map) x y q refl z in
@@ -254,7 +257,11 @@ module _ {b : Board} {w : World} (inv : Inv b w) where
 
   module _ (d n : ℕ) where
     abbrev stops : Bool
-    stops = blocked s (w .map) d n
+    stops = blocked (ownCutter s) (w .map) d n
+
+    -- the cutter may stand where i steps end
+    abbrev free : ℕ → Bool
+    free i = mayStand (cutter.after d i (ownCutter s)) (w .map)
 
     -- each step of a run that is done ends free of copper
     frees : Running s (w .map) d n → stops ≡ false → (i : ℕ) → 1 ≤ i → i ≤ n → Free w (columnAfter d i (s .x)) (rowAfter d i (s .y))
@@ -262,11 +269,9 @@ module _ {b : Board} {w : World} (inv : Inv b w) where
     frees g none i low high =
         let o = on-the-way (g .on) high in
         let k : i - 1 + 1 ≡ i = omega arith in
-        let f : not (session.passesAfter s (w .map) d (i - 1 + 1)) ≡ false =
-        some-false n (λ j. not (session.passesAfter s (w .map) d (j + 1))) (i - 1) none (omega arith)
-        in
-        let p : session.passesAfter s (w .map) d i ≡ true = not-false _ (rw k at f) in
-        passed-clear inv (g .open-sheet) (g .cutter .current) (columnAfter d i (s .x)) (rowAfter d i (s .y)) (s .q) (o .end .0) (o .end .1) p
+        let f = some-false n (λ j. not (free (j + 1))) (i - 1) none (omega arith) in
+        let p : free i ≡ true = not-false _ (rw k at f) in
+        passed-clear inv (g .open-sheet) (g .cutter .current) (columnAfter d i (s .x)) (rowAfter d i (s .y)) (s .q) (o .end .across) (o .end .down) p
 
     along : (k : Cutter) → SameCutter k s → ((i : ℕ) → 1 ≤ i → i ≤ n → Free w (columnAfter d i (s .x)) (rowAfter d i (s .y))) → Along b d n k
     along up e f = tt
@@ -285,7 +290,7 @@ module _ {b : Board} {w : World} (inv : Inv b w) where
           last = omega (arith, f .below);
           close =
               rw (← a, ← c, ← e)
-              (failed-close inv (g .open-sheet) (g .cutter .current) _ _ (s .q) (o .end .0) (o .end .1) (not-true _ (f .passes)));
+              (failed-close inv (g .open-sheet) (g .cutter .current) _ _ (s .q) (o .end .across) (o .end .down) (not-true _ (f .passes)));
         }
 
     moves : (k : Cutter) → SameCutter k s → s .lowered ≡ true → SameCutter (moved d n k) (session.runSession s d n)
@@ -300,7 +305,7 @@ module _ {b : Board} {w : World} (inv : Inv b w) where
         let g = run-granted s (w .map) d n refl z in (
           along (b .cutter) (inv .agree .cutter) (frees g p),
           cutter-inv true (columnAfter d n (s .x)) (rowAfter d n (s .y)) (s .q) (moved d n (b .cutter)) (moves (b .cutter) (inv .agree .cutter) (g .lowered))
-              (down-sound s (inv .fine) (columnAfter d n (s .x)) (rowAfter d n (s .y)) (s .q) (g .cutter .current) (g .on .end .0) (g .on .end .1) (g .cutter .small))
+              (down-sound s (inv .fine) (columnAfter d n (s .x)) (rowAfter d n (s .y)) (s .q) (g .cutter .current) (g .on .end .across) (g .on .end .down) (g .cutter .small))
               (λ l. frees g p n (g .steps) (omega arith)),
         ))
         (λ z p. stopped (b .cutter) (inv .agree .cutter) (run-granted s (w .map) d n refl z) p)

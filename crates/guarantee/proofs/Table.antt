@@ -15,7 +15,7 @@ use Rattle.exact.specs.Nearest.{nearest, exactMap}
 use Rattle.skeleton.specs.Table.{least, g}
 use Rattle.skeleton.specs.Skeleton.{takenBy, removed, skeletonOf, covered, rebuilt}
 use Rattle.radius.specs.Radius.{measurable, radiusAnswer, radiusQ}
-use Rattle.session.specs.Calls.{passesAt}
+use Rattle.cutter.specs.Gates.{passesAt}
 use Rattle.guarantee.specs.Table.{four, three, ends, Marked, m1, m2, m3, m4, m5, m6, m7, m8, m9, Says}
 
 pub boards : (m : Marked) → Says m

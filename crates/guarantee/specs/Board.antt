@@ -9,7 +9,7 @@ use lib.IntN.{ℤ}
 use Rattle.raster.specs.Pixels.{Mask}
 use Rattle.raster.specs.Sheet.{covers}
 use Rattle.morphology.specs.Resize.{grows, stays}
-use Rattle.session.specs.Directions.{columnAfter, rowAfter}
+use Rattle.cutter.specs.Directions.{columnAfter, rowAfter}
 
 -- ---- the calls
 

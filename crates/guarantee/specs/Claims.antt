@@ -11,9 +11,9 @@ use lib.Dec.{eqb, leb}
 use lib.IntN.{ℤ}
 use Rattle.raster.specs.Distance.{apart, Copper, Clear}
 use Rattle.raster.specs.Sheet.{copperOf}
+use Rattle.cutter.specs.Directions.{columnAfter, rowAfter}
 use Rattle.session.specs.declared.Session.{Session}
 use Rattle.session.specs.State.{fresh}
-use Rattle.session.specs.Directions.{columnAfter, rowAfter}
 use Rattle.guarantee.specs.Board.{Call, opening, paint, erase, build, place, run, lift, expand, shrink, skeleton, rebuild, aside, Cutter, up, down, Board, blank, feed}
 use Rattle.guarantee.specs.World.{World, world, answer, after}
 

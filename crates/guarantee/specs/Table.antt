@@ -9,8 +9,9 @@ use Rattle.raster.specs.Map.{dxAt, dyAt, sizeAt}
 use Rattle.skeleton.specs.Table.{g}
 use Rattle.skeleton.specs.Skeleton.{skeletonOf, rebuilt}
 use Rattle.radius.specs.Radius.{radiusQ}
+use Rattle.cutter.specs.Gates.{passesAt}
 use Rattle.session.specs.State.{openedAs}
-use Rattle.session.specs.Calls.{mapOf, passesAt}
+use Rattle.session.specs.Calls.{mapOf}
 
 -- 4 × 4 with copper at (3, 0), (0, 3) and (2, 2): its map by an engine
 unfoldable pub four : (engine : ℕ) → List ℤ

@@ -10,15 +10,15 @@ use lib.IntN.{ℤ}
 use lib.ListN.{length, take, drop, length-drop, take-append-drop}
 use lib.Seq.{length-take-le, drop-drop}
 use borrow.Author.Tests.{lt-ltb, le-ltb, ltb-true, leb-true}
-use Rattle.raster.specs.Pixels.{index}
 use Rattle.raster.specs.Refusal.{firstOf, lastOf}
 use Rattle.raster.specs.RefusalLaws.{every, first-every, last-every}
 use Rattle.raster.specs.Tests.{and-left, and-right}
+use Rattle.cutter.specs.Gates.{mayStand, blocked}
 use Rattle.session.specs.declared.Session.{Session}
 use Rattle.session.specs.Calls.{
-  scanOf,
-  passesAt,
-  blocked,
+  overflows,
+  cutterOf,
+  ownCutter,
   openAnswer,
   fillAnswer,
   buildRefusal,
@@ -55,12 +55,11 @@ two-digits (calls.opening a b o) w = first-small _ refl
 two-digits (calls.paint x y c r) w = first-small _ refl
 two-digits (calls.erase x y c r) w = first-small _ refl
 two-digits (calls.build e s) w =
-    last-small (buildRefusal (w .session) (w .sheet) (w .map) s e) (not (eqb e 1) && scanOf (w .session) (w .sheet) e .over) 35 (first-small _ refl) (omega arith)
+    last-small (buildRefusal (w .session) (w .sheet) (w .map) s e) (overflows (w .session) (w .sheet) e) 35 (first-small _ refl) (omega arith)
 two-digits (calls.place x y q) w =
-    last-small (placeRefusal (w .session) (w .map) x y q) (not (passesAt (w .session .engine) (w .map) (index (w .session .width) x y) q)) 34
-    (first-small _ refl) (omega arith)
+    last-small (placeRefusal (w .session) (w .map) x y q) (not (mayStand (cutterOf (w .session) x y q) (w .map))) 34 (first-small _ refl) (omega arith)
 two-digits (calls.run d n) w =
-    last-small (runRefusal (w .session) (w .map) d n) (blocked (w .session) (w .map) d n) 34 (first-small _ refl) (omega arith)
+    last-small (runRefusal (w .session) (w .map) d n) (blocked (ownCutter (w .session)) (w .map) d n) 34 (first-small _ refl) (omega arith)
 two-digits calls.lift w = omega arith
 two-digits (calls.expand q s) w = first-small _ refl
 two-digits (calls.shrink q s) w = first-small _ refl

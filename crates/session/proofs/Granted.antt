@@ -14,12 +14,11 @@ use Rattle.raster.specs.Limits.{maxSide, maxQ, maxCount}
 use Rattle.raster.specs.Refusal.{firstOf}
 use Rattle.raster.specs.RefusalLaws.{every, first-every}
 use Rattle.raster.specs.Tests.{and-left, and-right, or-left, or-right}
+use Rattle.cutter.specs.Gates.{OnSheet}
+use Rattle.cutter.proofs.Walk.{on-sheet}
 use Rattle.session.specs.declared.Session.{Session}
 use Rattle.session.specs.State.{side, cutterSound, mapSound, sheetSound, sound, active}
-use Rattle.session.specs.Directions.{stepRight, stepDown, leaves}
-use Rattle.session.specs.Calls.{notSheet, notMap, shortScratch, openAnswer, fillAnswer, buildRefusal, placeRefusal, runRefusal, OnSheet, resizeAnswer, readAnswer}
-use Rattle.session.proofs.Signs.{stays, between}
-use Rattle.session.proofs.Walk.{leaves-sheet}
+use Rattle.session.specs.Calls.{notSheet, notMap, shortScratch, openAnswer, fillAnswer, buildRefusal, ownCutter, placeRefusal, runRefusal, resizeAnswer, readAnswer}
 
 both : (a b : Bool) → a && b ≡ true → (a ≡ true) × (b ≡ true)
 both a b e = (and-left a b e, and-right a b e)
@@ -153,7 +152,7 @@ pub record Running (s : Session) (map : List ℤ) (direction n : ℕ) : Type 0 w
   pub lowered : s .lowered ≡ true
   pub cutter : Lowered s
   pub steps : 1 ≤ n
-  pub on : OnSheet s map direction n
+  pub on : OnSheet (ownCutter s) map direction n
 
 pub run-granted : (s : Session) (map : List ℤ) (d n : ℕ) {answer : ℕ} → answer ≡ runRefusal s map d n → answer ≡ 0 → Running s map d n
 unfolding runRefusal
@@ -162,33 +161,13 @@ run-granted s map d n table done =
     let counted : leb 1 n && leb n maxCount ≡ true = not-false _ (or-right (ltb 7 d) _ (f 2)) in
     let cutter = lowered-says s (and-right (s .opened) _ (not-false _ (f 0))) (not-false _ (f 3)) in
     let known = ltb-false 7 d (or-left (ltb 7 d) _ (f 2)) in
-    let inside = leaves-sheet s d known (cutter .across) (cutter .down) n ∙ f 4 in
     record {
       open-sheet = not-false _ (f 0);
       lowered = not-false _ (f 3);
       cutter = cutter;
       steps = leb-true 1 n (and-left (leb 1 n) _ counted);
-      on = record {
-        known = known;
-        held = eqb-true _ _ (not-false _ (f 1));
-        start = (cutter .across, cutter .down);
-        end = (
-          stays (stepRight d) (s .width) n (s .x) (cutter .across) (or-left (leaves (stepRight d) (s .width) n (s .x)) _ inside),
-          stays (stepDown d) (s .height) n (s .y) (cutter .down) (or-right (leaves (stepRight d) (s .width) n (s .x)) _ inside),
-        );
-      };
+      on = on-sheet (ownCutter s) d known (cutter .across) (cutter .down) n (eqb-true _ _ (not-false _ (f 1))) (f 4);
     }
-
-pub on-the-way : {s : Session} {map : List ℤ} {d n i : ℕ} → OnSheet s map d n → i ≤ n → OnSheet s map d i
-on-the-way {s} {map} {d} {n} o l = record {
-  known = o .known;
-  held = o .held;
-  start = o .start;
-  end = (
-    between (stepRight d) (s .width) n (s .x) (o .start .0) (o .end .0) l,
-    between (stepDown d) (s .height) n (s .y) (o .start .1) (o .end .1) l,
-  );
-}
 
 -- ---- expand and shrink
 

@@ -3,23 +3,21 @@
 -- Assumes nothing.
 use mathlib.Core.Bool.{Bool, not, cond, _&&_, _||_}
 use mathlib.Core.List.{List, [], _∷_}
-use mathlib.Core.Path.{_≡_}
-use Prim.Native.Nat.{ℕ, _+_, _*_, _<_, _≤_}
+use Prim.Native.Nat.{ℕ, _+_, _*_}
 use lib.Dec.{eqb, leb, ltb}
-use lib.IntN.{ℤ, pos}
+use lib.IntN.{ℤ}
 use lib.ListN.{length, take, drop}
-use Rattle.raster.specs.Gate.{Gate, passes}
 use Rattle.raster.specs.Limits.{maxQ, maxCount}
-use Rattle.raster.specs.Loop.{some}
-use Rattle.raster.specs.Map.{sizeAt, unlabelledAt, unmapped, hasCopper}
-use Rattle.raster.specs.Pixels.{index}
+use Rattle.raster.specs.Map.{unmapped, hasCopper}
 use Rattle.raster.specs.Refusal.{firstOf, lastOf}
 use Rattle.raster.specs.Sheet.{copperOf, filled}
 use Rattle.scan.specs.Scan as scan
 use Rattle.exact.specs.Nearest as exact
+use Rattle.cutter.specs.declared.Cutter.{Cutter}
+use Rattle.cutter.specs.Directions.{columnAfter, rowAfter}
+use Rattle.cutter.specs.Gates.{mayStand, strays, blocked}
 use Rattle.session.specs.declared.Session.{Session}
 use Rattle.session.specs.State.{fresh, side, sound, active, stale, builtBy, downAt, upOf}
-use Rattle.session.specs.Directions.{columnAfter, rowAfter, walk, isPixel}
 
 -- done: the new value; refused: the old one
 abbrev pub onDone : {A : Type 0} → (answer : ℕ) → A → A → A
@@ -58,13 +56,17 @@ filledBy s x y cols rows v sheet = filled (s .width) (s .height) x y cols rows v
 
 -- ---- build: engine 1 exact, 2 8SED, 3 4SED
 
--- what the scan of engine 2 or 3 leaves, and whether it met a component outside ±2,047
+-- what the scan of engine 2 or 3 leaves
 abbrev pub scanOf : Session → List ℕ → (engine : ℕ) → scan.State
 scanOf s sheet e = scan.scanned (s .width) (eqb e 2) (s .height) sheet
 
 -- the engine's map of the sheet
 abbrev pub mapOf : Session → List ℕ → (engine : ℕ) → List ℤ
 mapOf s sheet e = cond (eqb e 1) (exact.exactMap (copperOf sheet (s .width)) (s .width) (s .height)) (scanOf s sheet e .map)
+
+-- a candidate of its scan left ±2,047
+abbrev pub overflows : Session → List ℕ → (engine : ℕ) → Bool
+overflows s sheet e = not (eqb e 1) && scanOf s sheet e .over
 
 unfoldable pub buildRefusal : Session → List ℕ → (map scratch : List ℤ) → (engine : ℕ) → ℕ
 buildRefusal s sheet map scratch e = firstOf
@@ -74,7 +76,7 @@ buildRefusal s sheet map scratch e = firstOf
     ∷ [])
 
 unfoldable pub buildAnswer : Session → List ℕ → (map scratch : List ℤ) → (engine : ℕ) → ℕ
-buildAnswer s sheet map scratch e = lastOf (buildRefusal s sheet map scratch e) (not (eqb e 1) && scanOf s sheet e .over) 35
+buildAnswer s sheet map scratch e = lastOf (buildRefusal s sheet map scratch e) (overflows s sheet e) 35
 
 -- 35 alone changes something though it refuses: the map is left unlabelled and not current, the cutter up
 abbrev pub buildSession : Session → (engine answer : ℕ) → Session
@@ -87,14 +89,14 @@ buildMap s sheet map e a = cond (eqb a 0) (mapOf s sheet e) (cond (eqb a 35) (un
 abbrev pub buildScratch : Session → List ℤ → (engine answer : ℕ) → List ℤ
 buildScratch s scratch e a = cond (eqb a 0 && eqb e 1) (exact.cleared (s .height * s .width) scratch) scratch
 
--- ---- place and run: the gates
+-- ---- place and run
 
-abbrev pub gateOf : (engine : ℕ) → Gate
-gateOf e = cond (eqb e 1) exact.gate (scan.gate (eqb e 2))
+-- the cutter of q at the pixel (x, y) of the open sheet, and the one that is down
+abbrev pub cutterOf : Session → (x y q : ℕ) → Cutter
+cutterOf s x y q = record { width = s .width; height = s .height; engine = s .engine; x = x; y = y; q = q }
 
--- pixel p of the map passes a cutter of q: it is unlabelled, or its size passes the engine's gate
-unfoldable pub passesAt : (engine : ℕ) → List ℤ → (p q : ℕ) → Bool
-passesAt e map p q = unlabelledAt map p || passes (gateOf e) (sizeAt map p) q
+abbrev pub ownCutter : Session → Cutter
+ownCutter s = cutterOf s (s .x) (s .y) (s .q)
 
 unfoldable pub placeRefusal : Session → List ℤ → (x y q : ℕ) → ℕ
 placeRefusal s map x y q = firstOf
@@ -106,11 +108,7 @@ placeRefusal s map x y q = firstOf
     ∷ [])
 
 unfoldable pub placeAnswer : Session → List ℤ → (x y q : ℕ) → ℕ
-placeAnswer s map x y q = lastOf (placeRefusal s map x y q) (not (passesAt (s .engine) map (index (s .width) x y) q)) 34
-
--- a run leaves the sheet: one of its steps, taken one after another, ends at no pixel
-unfoldable pub strays : Session → (direction count : ℕ) → Bool
-strays s d n = some n (λ i. not (isPixel (s .width) (s .height) (walk d (i + 1) (pos (s .x), pos (s .y)))))
+placeAnswer s map x y q = lastOf (placeRefusal s map x y q) (not (mayStand (cutterOf s x y q) map)) 34
 
 unfoldable pub runRefusal : Session → List ℤ → (direction count : ℕ) → ℕ
 runRefusal s map d n = firstOf
@@ -118,29 +116,14 @@ runRefusal s map d n = firstOf
     ∷ (notMap s map, 12)
     ∷ (ltb 7 d || not (leb 1 n && leb n maxCount), 17)
     ∷ (not (s .lowered), 32)
-    ∷ (strays s d n, 33)
+    ∷ (strays (ownCutter s) d n, 33)
     ∷ [])
 
--- the pixel after n steps of a run passes its cutter
-abbrev pub passesAfter : Session → List ℤ → (direction n : ℕ) → Bool
-passesAfter s map d n = passesAt (s .engine) map (index (s .width) (columnAfter d n (s .x)) (rowAfter d n (s .y))) (s .q)
-
--- some pixel after the start does not
-unfoldable pub blocked : Session → List ℤ → (direction count : ℕ) → Bool
-blocked s map d n = some n (λ i. not (passesAfter s map d (i + 1)))
-
 unfoldable pub runAnswer : Session → List ℤ → (direction count : ℕ) → ℕ
-runAnswer s map d n = lastOf (runRefusal s map d n) (blocked s map d n) 34
+runAnswer s map d n = lastOf (runRefusal s map d n) (blocked (ownCutter s) map d n) 34
 
 abbrev pub runSession : Session → (direction count : ℕ) → Session
 runSession s d n = downAt (columnAfter d n (s .x)) (rowAfter d n (s .y)) (s .q) s
-
--- what a run that `runRefusal` lets through has, as the functions that test its pixels require it: a map of the sheet, start and end on the sheet
-pub record OnSheet (s : Session) (map : List ℤ) (direction n : ℕ) : Type 0 where
-  pub known : direction ≤ 7
-  pub held : length map ≡ 2 * (s .height * s .width)
-  pub start : (s .x < s .width) × (s .y < s .height)
-  pub end : (columnAfter direction n (s .x) < s .width) × (rowAfter direction n (s .y) < s .height)
 
 -- ---- lift: done also if the cutter was up; a session that no call could hand back becomes a fresh one
 

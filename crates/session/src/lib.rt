@@ -1,36 +1,34 @@
 // The session (document 01): every call takes it by value and hands it back with an answer number, 0 if it was done. No call asks anything of its caller:
 // bad input gets its number, and a refusal changes nothing.
 ghost use mathlib.Core.Path.{_≡_};
-ghost use Prim.Native.Nat.{_+_, _-_, _*_, _≤_, _<_};
-ghost use lib.ListN.{length};
+ghost use mathlib.Core.Bool.{cond};
+ghost use Prim.Native.Nat.{_*_, _≤_, _<_};
+ghost use lib.Dec.{eqb};
 ghost use Rattle.raster.specs.Map.{unmapped};
 ghost use Rattle.raster.specs.Sheet.{bare};
 ghost use Rattle.exact.specs.Nearest.{cleared};
 ghost use Rattle.morphology.specs.Resize.{expanded, shrunk};
 ghost use Rattle.skeleton.specs.Skeleton.{skeletonOf, rebuilt};
-ghost use Rattle.raster.specs.Gate.{passes};
-ghost use Rattle.raster.specs.Pixels.{index};
+ghost use Rattle.cutter.specs.Directions.{columnAfter, rowAfter};
 ghost use Rattle.session.specs.State.{fresh, side, cutterSound, mapSound, sheetSound, sound, active, openedAs, stale, builtBy, downAt, upOf};
-ghost use Rattle.session.specs.Directions.{stepRight, stepDown, along, leaves, columnAfter, rowAfter};
 ghost use Rattle.session.specs.Calls.{
   onDone,
   isMap,
   openAnswer,
   fillAnswer,
   filledBy,
+  overflows,
+  mapOf,
   buildRefusal,
   buildAnswer,
   buildSession,
   buildMap,
   buildScratch,
-  gateOf,
-  passesAt,
+  cutterOf,
+  ownCutter,
   placeRefusal,
   placeAnswer,
   runRefusal,
-  OnSheet,
-  passesAfter,
-  blocked,
   runAnswer,
   runSession,
   liftSession,
@@ -272,9 +270,7 @@ fn run_refusal(s: Session, map: &[i16], d: u16, n: u16) -> u32
     if !s.lowered {
         return 32;
     }
-    let across = is_leaving(step_right(d), s.width, n, s.x);
-    let down = is_leaving(step_down(d), s.height, n, s.y);
-    if across | down {
+    if cutter::leaves_sheet(own_cutter(s), d, n) {
         return 33;
     }
     0
@@ -317,116 +313,27 @@ fn read_answer(s: Session, map: &[i16], wrong: bool) -> u32
     0
 }
 
-// ---- the gates
+// ---- the cutter
 
-// A labelled pixel of size a passes a cutter of q.
-fn passes_gate(engine: u16, a: u32, q: u32) -> bool
-    ensures { λ r. ⌜ r ≡ passes (gateOf engine) a q ⌝ }
+// That of q at the pixel (x, y) of the open sheet.
+fn cutter_at(s: Session, x: u16, y: u16, q: u32) -> cutter::Cutter
+    ensures { λ r. ⌜ r ≡ cutterOf s x y q ⌝ }
 {
-    let size = a as usize;
-    let limit = q as usize;
-    if engine == 1 {
-        return limit < size;
+    cutter::Cutter {
+        width: s.width,
+        height: s.height,
+        engine: s.engine,
+        x,
+        y,
+        q,
     }
-    if engine == 2 {
-        return 169 * limit < 144 * size;
-    }
-    2 * limit < size
 }
 
-// The pixel (x, y) passes it; an unlabelled one always does.
-fn passes_at(s: Session, map: &[i16], x: usize, y: usize, q: u32) -> bool
-    requires { ⌜ (length (now map) ≡ 2 * (s .height * s .width)) × ((x < s .width) × (y < s .height)) ⌝ }
-    ensures { λ r. ⌜ r ≡ passesAt (s .engine) (now (map .entry)) (index (s .width) x y) q ⌝ }
+// The one that is down.
+fn own_cutter(s: Session) -> cutter::Cutter
+    ensures { λ r. ⌜ r ≡ ownCutter s ⌝ }
 {
-    let p = y * (s.width as usize) + x;
-    raster::unlabelled_at(map, p) | passes_gate(s.engine, raster::size_at(map, p), q)
-}
-
-// ---- the directions
-
-// One step right and down, clockwise from east.
-const STEPS: [[i16; 2]; 8] = [
-    [1, 0],
-    [1, 1],
-    [0, 1],
-    [-1, 1],
-    [-1, 0],
-    [-1, -1],
-    [0, -1],
-    [1, -1],
-];
-
-fn step_right(d: u16) -> i16
-    requires { ⌜ d ≤ 7 ⌝ }
-    ensures { λ r. ⌜ r ≡ stepRight d ⌝ }
-{
-    STEPS[d as usize][0]
-}
-
-fn step_down(d: u16) -> i16
-    requires { ⌜ d ≤ 7 ⌝ }
-    ensures { λ r. ⌜ r ≡ stepDown d ⌝ }
-{
-    STEPS[d as usize][1]
-}
-
-// t − n, not below 0.
-fn less(t: usize, n: usize) -> usize
-    ensures { λ r. ⌜ r ≡ t - n ⌝ }
-{
-    if t < n {
-        return 0;
-    }
-    t - n
-}
-
-// The place t after n steps.
-fn place_after(step: i16, n: u16, t: u16) -> usize
-    ensures { λ r. ⌜ r ≡ along step n t ⌝ }
-{
-    if 0 < step {
-        return (t as usize) + (n as usize);
-    }
-    if step < 0 {
-        return less(t as usize, n as usize);
-    }
-    t as usize
-}
-
-// They leave a line of `side` places.
-fn is_leaving(step: i16, side: u16, n: u16, t: u16) -> bool
-    ensures { λ r. ⌜ r ≡ leaves step side n t ⌝ }
-{
-    if 0 < step {
-        return (side as usize) <= (t as usize) + (n as usize);
-    }
-    if step < 0 {
-        return t < n;
-    }
-    false
-}
-
-// The pixel after n steps of a run passes its cutter.
-fn passes_after(s: Session, map: &[i16], d: u16, n: u16) -> bool
-    requires { ⌜ OnSheet s (now map) d n ⌝ }
-    ensures { λ r. ⌜ r ≡ passesAfter s (now (map .entry)) d n ⌝ }
-{
-    let x = place_after(step_right(d), n, s.x);
-    let y = place_after(step_down(d), n, s.y);
-    passes_at(s, map, x, y, s.q)
-}
-
-// Some pixel of a run after its start does not.
-fn is_blocked(s: Session, map: &[i16], d: u16, count: u16) -> bool
-    requires { ⌜ OnSheet s (now map) d count ⌝ }
-    ensures { λ r. ⌜ r ≡ blocked s (now (map .entry)) d count ⌝ }
-{
-    let mut met = false;
-    for i in 0..count {
-        met = !passes_after(s, map, d, i + 1) | met;
-    }
-    met
+    cutter_at(s, s.x, s.y, s.q)
 }
 
 // The session with its cutter where the run ends.
@@ -434,9 +341,8 @@ fn run_to(mut s: Session, d: u16, count: u16) -> Session
     requires { ⌜ (d ≤ 7) × ((columnAfter d count (s .x) < s .width) × (rowAfter d count (s .y) < s .height)) ⌝ }
     ensures { λ r. ⌜ r ≡ runSession s d count ⌝ }
 {
-    let x = place_after(step_right(d), count, s.x);
-    let y = place_after(step_down(d), count, s.y);
-    s = down_at(s, x as u16, y as u16, s.q);
+    let c = cutter::moved(own_cutter(s), d, count);
+    s = down_at(s, c.x, c.y, c.q);
     s
 }
 
@@ -471,6 +377,26 @@ fn fill(s: Session, sheet: &mut [u8], x: u16, y: u16, cols: u16, rows: u16, v: u
         return answer;
     }
     answer
+}
+
+// Writes the engine's map; says whether a candidate of its scan left ±2,047, and leaves the map unlabelled then.
+fn write_map(s: Session, sheet: &[u8], map: &mut [i16], scratch: &mut [i16], engine: u16) -> bool
+    requires { ⌜ buildRefusal s (now sheet) (now map) (now scratch) engine ≡ 0 ⌝ }
+    ensures { λ r. ⌜ r ≡ overflows s (now (sheet .entry)) engine ⌝ }
+    ensures { λ r. ⌜ now (map .exit) ≡ cond r (unmapped (now (map .entry))) (mapOf s (now (sheet .entry)) engine) ⌝ }
+    ensures { λ r. ⌜ now (scratch .exit) ≡ cond (eqb engine 1) (cleared (s .height * s .width) (now (scratch .entry))) (now (scratch .entry)) ⌝ }
+{
+    let w = s.width as usize;
+    let h = s.height as usize;
+    if engine == 1 {
+        exact::exact(sheet, map, scratch, w, h);
+        return false;
+    }
+    if scan::scan(sheet, map, w, h, engine == 2) {
+        raster::clear_map(map);
+        return true;
+    }
+    false
 }
 
 impl Session {
@@ -566,18 +492,7 @@ impl Session {
                 session: self,
             };
         }
-        let w = self.width as usize;
-        let h = self.height as usize;
-        if engine == 1 {
-            exact::exact(sheet, map, scratch, w, h);
-            self = built_by(self, engine);
-            return Reply {
-                answer,
-                session: self,
-            };
-        }
-        if scan::scan(sheet, map, w, h, engine == 2) {
-            raster::clear_map(map);
+        if write_map(self, sheet, map, scratch, engine) {
             self = stale_of(self);
             return Reply {
                 answer: 35,
@@ -603,7 +518,7 @@ impl Session {
                 session: self,
             };
         }
-        if passes_at(self, map, x as usize, y as usize, q) {
+        if cutter::may_stand(cutter_at(self, x, y, q), map) {
             self = down_at(self, x, y, q);
             return Reply {
                 answer,
@@ -628,7 +543,7 @@ impl Session {
                 session: self,
             };
         }
-        if is_blocked(self, map, direction, count) {
+        if cutter::is_blocked(own_cutter(self), map, direction, count) {
             return Reply {
                 answer: 34,
                 session: self,

@@ -2,7 +2,7 @@
 -- Assumes nothing.
 use native.Mathlib.Omega.{arith}
 use borrow.Author.Needs.{needs}
-use Rattle.session.proofs.Product.{product-small}
+use Rattle.raster.proofs.Product.{product-small}
 use Rattle.session.proofs.is_map.Statement.{statement}
 use Rattle.session.proofs.is_map.Tie as tie
 

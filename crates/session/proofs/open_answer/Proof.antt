@@ -8,7 +8,7 @@ use borrow.Author.Tests.{eq-eqb, ne-eqb}
 use Rattle.raster.specs.Refusal.{firstOf}
 use Rattle.session.specs.State.{side}
 use Rattle.session.specs.Calls.{openAnswer}
-use Rattle.session.proofs.Product.{product-small}
+use Rattle.raster.proofs.Product.{product-small}
 use Rattle.session.proofs.open_answer.Statement.{statement}
 use Rattle.session.proofs.open_answer.Tie as tie
 

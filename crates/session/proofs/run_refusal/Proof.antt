@@ -9,11 +9,10 @@ use borrow.Author.Tests.{ltb-false, not-false}
 use Rattle.raster.specs.Limits.{maxCount}
 use Rattle.raster.specs.Refusal.{firstOf}
 use Rattle.raster.specs.Tests.{and-right, or-left}
+use Rattle.cutter.specs.Gates.{strays}
 use Rattle.session.specs.State.{active}
-use Rattle.session.specs.Calls.{notMap, strays, runRefusal}
+use Rattle.session.specs.Calls.{notMap, ownCutter, runRefusal}
 use Rattle.session.proofs.Granted.{lowered-says}
-use Rattle.session.proofs.Signs.{leaving}
-use Rattle.session.proofs.Walk.{leaves-sheet}
 use Rattle.session.proofs.run_refusal.Statement.{statement}
 use Rattle.session.proofs.run_refusal.Tie as tie
 
@@ -50,27 +49,24 @@ known c =
     let n = c .before .before .before .before .before .args .n in
     ltb-false 7 d (or-left (ltb 7 d) (not (leb 1 n && leb n maxCount)) (c .if3 .left))
 
--- what the last test looks at
-off : (c : tie.After-is-leaving2) → let l = c .before .before in
-    let a = l .before .before .before .before .before .before .before .before .before .args in
-    l .is-leaving .result || c .is-leaving2 .result ≡ strays (a .s) (a .d) (a .n)
-off c =
-    let l = c .before .before in
-    let z = l .before .before in
+leaves-sheet-requires : tie.Need-leaves-sheet-requires
+leaves-sheet-requires c κs =
+    let z = c .before in
     let q = z .before .before in
-    let a = q .before .before .before .before .before .args in
-    let cutter = lowered-says (a .s) (and-right (a .s .opened) _ (not-false _ (fine (q .before .before .before)))) (not-false _ (z .if4 .left)) in
-    rw (
-      leaving _ _ _ (l .before .step-right .ok) (l .before .step-right .ensures) (l .is-leaving .ensures),
-      leaving _ _ _ (c .before .step-down .ok) (c .before .step-down .ensures) (c .is-leaving2 .ensures),
-    )
-    (leaves-sheet (a .s) (a .d) (known q) (cutter .across) (cutter .down) (a .n))
+    let s = q .before .before .before .before .before .args .s in
+    let cutter = lowered-says s (and-right (s .opened) _ (not-false _ (fine (q .before .before .before)))) (not-false _ (z .if4 .left)) in
+    rw (c .own-cutter .ensures) (known q, (cutter .across, cutter .down))
+
+-- what the last test says
+off : (c : tie.After-leaves-sheet) → let z = c .before .before in
+    let a = z .before .before .before .before .before .before .before .args in c .leaves-sheet .result ≡ strays (ownCutter (a .s)) (a .d) (a .n)
+off c = rw (c .before .own-cutter .ensures) at (c .leaves-sheet .ensures)
 
 returns-5 : tie.Need-returns-5
 unfolding runRefusal firstOf
 returns-5 c =
     let l = c .before in
-    let z = l .before .before .before .before in
+    let z = l .before .before in
     let q = z .before .before in
     let e = q .before in simp (fine (e .before .before), sized e, q .if3 .left, z .if4 .left, rw (off l) at (c .if5 .taken))
 
@@ -78,7 +74,7 @@ returns-6 : tie.Need-returns-6
 unfolding runRefusal firstOf
 returns-6 c =
     let l = c .before in
-    let z = l .before .before .before .before in
+    let z = l .before .before in
     let q = z .before .before in
     let e = q .before in simp (fine (e .before .before), sized e, q .if3 .left, z .if4 .left, rw (off l) at (c .if5 .left))
 
@@ -92,9 +88,7 @@ run-refusal-spec =
     returns-2
     returns-3
     returns-4
-    (λ c κs. known (c .before .before))
     (λ c κs. search needs)
-    (λ c κs. known (c .before .before .before .before))
-    (λ c κs. search needs)
+    leaves-sheet-requires
     returns-5
     returns-6)

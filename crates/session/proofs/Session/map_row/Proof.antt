@@ -12,7 +12,7 @@ use borrow.Author.Tests.{eqb-true, ltb-true, not-true, not-false}
 use Rattle.raster.specs.Tests.{and-left, and-right}
 use Rattle.session.specs.State.{active}
 use Rattle.session.specs.Calls.{hasRow}
-use Rattle.session.proofs.Product.{product-small}
+use Rattle.raster.proofs.Product.{product-small}
 use Rattle.session.proofs.Session.map_row.Statement.{statement}
 use Rattle.session.proofs.Session.map_row.Tie as tie
 

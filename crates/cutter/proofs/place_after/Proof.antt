@@ -1,12 +1,12 @@
--- `session::place_after` meets its contract: the laws of the three signs.
+-- `cutter::place_after` meets its contract: the laws of the three signs.
 -- Assumes nothing.
 use mathlib.Core.Path.{_∙_}
 use mir.ValLaws.{toZ-ofZ}
 use borrow.Author.Needs.{needs}
 use Rattle.raster.specs.Tests.{holds, fails}
-use Rattle.session.proofs.Signs.{ahead, back, still}
-use Rattle.session.proofs.place_after.Statement.{statement}
-use Rattle.session.proofs.place_after.Tie as tie
+use Rattle.cutter.proofs.Signs.{ahead, back, still}
+use Rattle.cutter.proofs.place_after.Statement.{statement}
+use Rattle.cutter.proofs.place_after.Tie as tie
 
 returns : tie.Need-returns
 returns c =

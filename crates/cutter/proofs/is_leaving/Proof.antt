@@ -1,11 +1,11 @@
--- `session::is_leaving` meets its contract: the laws of the three signs.
+-- `cutter::is_leaving` meets its contract: the laws of the three signs.
 -- Assumes nothing.
 use mir.ValLaws.{toZ-ofZ}
 use borrow.Author.Needs.{needs}
 use Rattle.raster.specs.Tests.{holds, fails}
-use Rattle.session.proofs.Signs.{ahead, back, still}
-use Rattle.session.proofs.is_leaving.Statement.{statement}
-use Rattle.session.proofs.is_leaving.Tie as tie
+use Rattle.cutter.proofs.Signs.{ahead, back, still}
+use Rattle.cutter.proofs.is_leaving.Statement.{statement}
+use Rattle.cutter.proofs.is_leaving.Tie as tie
 
 returns : tie.Need-returns
 returns c =

@@ -1,4 +1,4 @@
--- `session::passes_gate` meets its contract: each arm is the gate of its engine.
+-- `cutter::passes_gate` meets its contract: each arm is the gate of its engine.
 -- Assumes nothing.
 use mathlib.Core.Path.{_≡_}
 use Prim.Native.Nat.{ℕ, _*_}
@@ -6,8 +6,8 @@ use native.Mathlib.Omega.{arith}
 use borrow.Author.Needs.{needs}
 use borrow.Author.Tests.{eq-eqb, ne-eqb}
 use Rattle.raster.specs.Gate.{passes}
-use Rattle.session.proofs.passes_gate.Statement.{statement}
-use Rattle.session.proofs.passes_gate.Tie as tie
+use Rattle.cutter.proofs.passes_gate.Statement.{statement}
+use Rattle.cutter.proofs.passes_gate.Tie as tie
 
 once : (n : ℕ) → 1 * n ≡ n
 once n = omega arith

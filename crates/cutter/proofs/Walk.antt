@@ -3,19 +3,22 @@
 -- Assumes nothing.
 use mathlib.Core.Path.{_≡_, refl, sym, ap, _∙_}
 use mathlib.Core.Bool.{Bool, true, false, not, _&&_, _||_, or-true, true≢false}
-use Prim.Native.Nat.{ℕ, zero, suc, _+_, _-_, _<_, _≤_}
+use mathlib.Core.List.{List}
+use Prim.Native.Nat.{ℕ, zero, suc, _+_, _-_, _*_, _<_, _≤_}
 use native.Mathlib.Decide.{decLt}
 use native.Mathlib.Numerals.{add-one}
 use native.Mathlib.Omega.{arith}
 use lib.Dec.{ltb}
 use lib.IntN.{ℤ, pos, negsuc, _+ℤ_, natAbs}
+use lib.ListN.{length}
 use borrow.Author.Tests.{ltb-false, leb-false, lt-ltb, le-ltb, le-leb, lt-leb}
 use Rattle.raster.specs.Loop.{some}
 use Rattle.raster.specs.LoopLaws.{some-false}
 use Rattle.raster.specs.Tests.{or-left, or-right}
-use Rattle.session.specs.declared.Session.{Session}
-use Rattle.session.specs.Directions.{steps, stepRight, stepDown, along, leaves, columnAfter, rowAfter, walk, inLine, isPixel}
-use Rattle.session.specs.Calls.{strays}
+use Rattle.cutter.specs.declared.Cutter.{Cutter}
+use Rattle.cutter.specs.Directions.{steps, stepRight, stepDown, along, leaves, columnAfter, rowAfter, walk, inLine, isPixel}
+use Rattle.cutter.specs.Gates.{strays, OnSheet}
+use Rattle.cutter.proofs.Signs.{stays, between}
 
 -- no step of the table is longer than 1: tested once, carried to every entry
 single : (d : ℕ) → d ≤ 7 → (natAbs (stepRight d) ≤ 1) × (natAbs (stepDown d) ≤ 1)
@@ -67,39 +70,39 @@ either true b = refl
 either false true = refl
 either false false = refl
 
-module _ (s : Session) (d : ℕ) (known : d ≤ 7) (across : s .x < s .width) (down : s .y < s .height) where
+module _ (c : Cutter) (d : ℕ) (known : d ≤ 7) (across : c .x < c .width) (down : c .y < c .height) where
   abbrev right : ℕ → Bool
-  right n = leaves (stepRight d) (s .width) n (s .x)
+  right n = leaves (stepRight d) (c .width) n (c .x)
 
   abbrev below : ℕ → Bool
-  below n = leaves (stepDown d) (s .height) n (s .y)
+  below n = leaves (stepDown d) (c .height) n (c .y)
 
   both-earlier : (n i : ℕ) → i ≤ n → right n || below n ≡ false → (right i ≡ false) × (below i ≡ false)
   both-earlier n i l e = (
-    earlier (stepRight d) (s .width) n (s .x) i l (or-left _ (below n) e),
-    earlier (stepDown d) (s .height) n (s .y) i l (or-right (right n) _ e),
+    earlier (stepRight d) (c .width) n (c .x) i l (or-left _ (below n) e),
+    earlier (stepDown d) (c .height) n (c .y) i l (or-right (right n) _ e),
   )
 
-  at-pixel : (n : ℕ) → right n || below n ≡ false → walk d n (pos (s .x), pos (s .y)) ≡ (pos (columnAfter d n (s .x)), pos (rowAfter d n (s .y)))
+  at-pixel : (n : ℕ) → right n || below n ≡ false → walk d n (pos (c .x), pos (c .y)) ≡ (pos (columnAfter d n (c .x)), pos (rowAfter d n (c .y)))
   unfolding walk
-  at-pixel zero e = rw (start (stepRight d) (s .width) (s .x) across .0, start (stepDown d) (s .height) (s .y) down .0)
+  at-pixel zero e = rw (start (stepRight d) (c .width) (c .x) across .0, start (stepDown d) (c .height) (c .y) down .0)
   at-pixel (suc n) e =
       let o = both-earlier (suc n) n (omega arith) e in
       let k = both-earlier (suc n) (suc n) (omega arith) e in
       rw (
         at-pixel n (rw (o .0, o .1)),
-        next (stepRight d) (s .width) n (s .x) (single d known .0) (k .0),
-        next (stepDown d) (s .height) n (s .y) (single d known .1) (k .1),
+        next (stepRight d) (c .width) n (c .x) (single d known .0) (k .0),
+        next (stepDown d) (c .height) n (c .y) (single d known .1) (k .1),
       )
 
   -- what the code tests is that one of the steps ends at no pixel
-  pub leaves-sheet : (n : ℕ) → right n || below n ≡ strays s d n
+  pub leaves-sheet : (n : ℕ) → right n || below n ≡ strays c d n
   unfolding strays some walk
-  leaves-sheet zero = rw (start (stepRight d) (s .width) (s .x) across .1, start (stepDown d) (s .height) (s .y) down .1)
+  leaves-sheet zero = rw (start (stepRight d) (c .width) (c .x) across .1, start (stepDown d) (c .height) (c .y) down .1)
   leaves-sheet (suc n) = rw (add-one n, ← leaves-sheet n) (go (right n || below n) (right (suc n) || below (suc n)) refl refl)
     where
       strays-next : Bool
-      strays-next = not (isPixel (s .width) (s .height) (walk d (suc n) (pos (s .x), pos (s .y))))
+      strays-next = not (isPixel (c .width) (c .height) (walk d (suc n) (pos (c .x), pos (c .y))))
 
       go : (t u : Bool) → right n || below n ≡ t → right (suc n) || below (suc n) ≡ u → u ≡ strays-next || t
       go true true e f = sym (or-true strays-next)
@@ -108,11 +111,37 @@ module _ (s : Session) (d : ℕ) (known : d ≤ 7) (across : s .x < s .width) (d
           let o = both-earlier n n (omega arith) e in
           rw (
             at-pixel n e,
-            on (stepRight d) (s .width) n (s .x) (single d known .0) across (o .0),
-            on (stepDown d) (s .height) n (s .y) (single d known .1) down (o .1),
+            on (stepRight d) (c .width) n (c .x) (single d known .0) across (o .0),
+            on (stepDown d) (c .height) n (c .y) (single d known .1) down (o .1),
           )
           (sym f ∙ either (right (suc n)) (below (suc n)))
 
   -- after i of the steps, a run that does not leave the sheet is at the pixel that it tests
-  pub reached : (n : ℕ) → strays s d n ≡ false → (i : ℕ) → i ≤ n → walk d i (pos (s .x), pos (s .y)) ≡ (pos (columnAfter d i (s .x)), pos (rowAfter d i (s .y)))
+  pub reached : (n : ℕ) → strays c d n ≡ false → (i : ℕ) → i ≤ n → walk d i (pos (c .x), pos (c .y)) ≡ (pos (columnAfter d i (c .x)), pos (rowAfter d i (c .y)))
   reached n e i l = let o = both-earlier n i l (leaves-sheet n ∙ e) in at-pixel i (rw (o .0, o .1))
+
+  -- such a run ends on the sheet
+  pub on-sheet : (n : ℕ) {map : List ℤ} → length map ≡ 2 * (c .height * c .width) → strays c d n ≡ false → OnSheet c map d n
+  on-sheet n held e =
+      let o = both-earlier n n (omega arith) (leaves-sheet n ∙ e) in
+      record {
+        known = known;
+        start = record { held = held; across = across; down = down };
+        end = record {
+          held = held;
+          across = stays (stepRight d) (c .width) n (c .x) across (o .0);
+          down = stays (stepDown d) (c .height) n (c .y) down (o .1);
+        };
+      }
+
+-- and so does each step on the way
+pub on-the-way : {c : Cutter} {map : List ℤ} {d n i : ℕ} → OnSheet c map d n → i ≤ n → OnSheet c map d i
+on-the-way {c} {map} {d} {n} o l = record {
+  known = o .known;
+  start = o .start;
+  end = record {
+    held = o .start .held;
+    across = between (stepRight d) (c .width) n (c .x) (o .start .across) (o .end .across) l;
+    down = between (stepDown d) (c .height) n (c .y) (o .start .down) (o .end .down) l;
+  };
+}

@@ -1,9 +1,9 @@
--- `session::step_down` meets its contract: the table is the definition's.
+-- `cutter::step_down` meets its contract: the table is the definition's.
 -- Assumes nothing.
 use borrow.Author.Needs.{needs}
-use Rattle.session.proofs.Signs.{read, read-is}
-use Rattle.session.proofs.step_down.Statement.{statement}
-use Rattle.session.proofs.step_down.Tie as tie
+use Rattle.cutter.proofs.Signs.{read, read-is}
+use Rattle.cutter.proofs.step_down.Statement.{statement}
+use Rattle.cutter.proofs.step_down.Tie as tie
 
 returns : tie.Need-returns
 unfolding read

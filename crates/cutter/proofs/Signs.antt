@@ -13,7 +13,7 @@ use mir.Syntax.{w16}
 use mir.Val.{SFits, toZ, ofZ}
 use mir.ValLaws.{toZ-ofZ}
 use borrow.Author.Tests.{leb-false}
-use Rattle.session.specs.Directions.{steps, stepRight, stepDown, along, leaves}
+use Rattle.cutter.specs.Directions.{steps, stepRight, stepDown, along, leaves}
 
 -- what the code's table of pairs holds: column 0 to the right, 1 down
 unfoldable pub read : (column direction : ℕ) → ℤ

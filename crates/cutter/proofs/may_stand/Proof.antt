@@ -1,0 +1,37 @@
+-- `cutter::may_stand` meets its contract: the two tests of `passesAt`, at a pixel that the map holds.
+-- Assumes nothing.
+use Prim.Native.Nat.{_*_, _<_, _≤_}
+use native.Mathlib.Omega.{arith}
+use borrow.Author.Needs.{needs}
+use Rattle.raster.proofs.Product.{product-small}
+use Rattle.raster.specs.Pixels.{index}
+use Rattle.raster.specs.PixelsLaws.{index-inside}
+use Rattle.cutter.specs.Gates.{passesAt}
+use Rattle.cutter.proofs.may_stand.Statement.{statement}
+use Rattle.cutter.proofs.may_stand.Tie as tie
+
+-- the pixel's place, and how many there are
+at : (c : tie.After-struct-known) → let k = c .before .args .c in
+    (index (k .width) (k .x) (k .y) < k .height * k .width) × (k .height * k .width ≤ 4294836225)
+at c =
+    let k = c .before .args .c in
+    let p = c .before .pre in
+    (index-inside (k .width) (k .x) (k .y) (p .across) (k .height) (p .down), product-small (k .height) (k .width) (omega arith) (omega arith))
+
+returns : tie.Need-returns
+unfolding passesAt
+returns c = rw (c .before .before .unlabelled-at .ensures, c .passes-gate .ensures, c .before .size-at .ensures .0)
+
+pub may-stand-spec : {M : Type 1} → statement M
+may-stand-spec =
+    tie.close
+    (tie.spec
+    (λ c. search needs)
+    (λ c. search needs)
+    (λ c. omega (arith, at (c .before)))
+    (λ c. search needs)
+    (λ c. omega (arith, at (c .before .before)))
+    (λ c κs. let s = c .before .before in omega (arith, at s, s .before .pre .held))
+    (λ c κs. let s = c .before .before .before in omega (arith, at s, s .before .pre .held))
+    (λ c κs. search needs)
+    returns)

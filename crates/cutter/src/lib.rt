@@ -1,0 +1,142 @@
+// The cutter (document 01, "Calls", place and run): whether it may stand at a pixel of a map, and where a run takes it.
+ghost use mathlib.Core.Path.{_≡_};
+ghost use Prim.Native.Nat.{_-_, _<_, _≤_};
+ghost use Rattle.raster.specs.Gate.{passes};
+ghost use Rattle.cutter.specs.Directions.{stepRight, stepDown, along, leaves, columnAfter, rowAfter};
+ghost use Rattle.cutter.specs.Gates.{gateOf, On, mayStand, OnSheet, after, strays, blocked};
+
+// A cutter of q at the pixel (x, y), over a map of width × height pixels that an engine built.
+pub struct Cutter {
+    pub width: u16,
+    pub height: u16,
+    pub engine: u16,
+    pub x: u16,
+    pub y: u16,
+    pub q: u32,
+}
+
+// ---- the gates
+
+// A labelled pixel of size a passes a cutter of q.
+fn passes_gate(engine: u16, a: u32, q: u32) -> bool
+    ensures { λ r. ⌜ r ≡ passes (gateOf engine) a q ⌝ }
+{
+    let size = a as usize;
+    let limit = q as usize;
+    if engine == 1 {
+        return limit < size;
+    }
+    if engine == 2 {
+        return 169 * limit < 144 * size;
+    }
+    2 * limit < size
+}
+
+// The pixel under the cutter passes it; an unlabelled one always does.
+pub fn may_stand(c: Cutter, map: &[i16]) -> bool
+    requires { ⌜ On c (now map) ⌝ }
+    ensures { λ r. ⌜ r ≡ mayStand c (now (map .entry)) ⌝ }
+{
+    let p = (c.y as usize) * (c.width as usize) + (c.x as usize);
+    raster::unlabelled_at(map, p) | passes_gate(c.engine, raster::size_at(map, p), c.q)
+}
+
+// ---- the directions
+
+// One step right and down, clockwise from east.
+const STEPS: [[i16; 2]; 8] = [
+    [1, 0],
+    [1, 1],
+    [0, 1],
+    [-1, 1],
+    [-1, 0],
+    [-1, -1],
+    [0, -1],
+    [1, -1],
+];
+
+fn step_right(d: u16) -> i16
+    requires { ⌜ d ≤ 7 ⌝ }
+    ensures { λ r. ⌜ r ≡ stepRight d ⌝ }
+{
+    STEPS[d as usize][0]
+}
+
+fn step_down(d: u16) -> i16
+    requires { ⌜ d ≤ 7 ⌝ }
+    ensures { λ r. ⌜ r ≡ stepDown d ⌝ }
+{
+    STEPS[d as usize][1]
+}
+
+// t − n, not below 0.
+fn less(t: usize, n: usize) -> usize
+    ensures { λ r. ⌜ r ≡ t - n ⌝ }
+{
+    if t < n {
+        return 0;
+    }
+    t - n
+}
+
+// The place t after n steps.
+fn place_after(step: i16, n: u16, t: u16) -> usize
+    ensures { λ r. ⌜ r ≡ along step n t ⌝ }
+{
+    if 0 < step {
+        return (t as usize) + (n as usize);
+    }
+    if step < 0 {
+        return less(t as usize, n as usize);
+    }
+    t as usize
+}
+
+// They leave a line of `side` places.
+fn is_leaving(step: i16, side: u16, n: u16, t: u16) -> bool
+    ensures { λ r. ⌜ r ≡ leaves step side n t ⌝ }
+{
+    if 0 < step {
+        return (side as usize) <= (t as usize) + (n as usize);
+    }
+    if step < 0 {
+        return t < n;
+    }
+    false
+}
+
+// ---- a run
+
+// A step of a run of n steps ends at no pixel.
+pub fn leaves_sheet(c: Cutter, d: u16, n: u16) -> bool
+    requires { ⌜ (d ≤ 7) × ((c .x < c .width) × (c .y < c .height)) ⌝ }
+    ensures { λ r. ⌜ r ≡ strays c d n ⌝ }
+{
+    let across = is_leaving(step_right(d), c.width, n, c.x);
+    let down = is_leaving(step_down(d), c.height, n, c.y);
+    across | down
+}
+
+// The cutter after n steps, which end on the sheet.
+pub fn moved(mut c: Cutter, d: u16, n: u16) -> Cutter
+    requires { ⌜ (d ≤ 7) × ((columnAfter d n (c .x) < c .width) × (rowAfter d n (c .y) < c .height)) ⌝ }
+    ensures { λ r. ⌜ r ≡ after d n c ⌝ }
+{
+    let x = place_after(step_right(d), n, c.x);
+    let y = place_after(step_down(d), n, c.y);
+    c.x = x as u16;
+    c.y = y as u16;
+    c
+}
+
+// Some pixel of a run after its start does not pass the cutter.
+pub fn is_blocked(c: Cutter, map: &[i16], d: u16, count: u16) -> bool
+    requires { ⌜ OnSheet c (now map) d count ⌝ }
+    ensures { λ r. ⌜ r ≡ blocked c (now (map .entry)) d count ⌝ }
+{
+    let mut met = false;
+    for i in 0..count {
+        met = !may_stand(moved(c, d, i + 1), map) | met;
+    }
+    met
+}
