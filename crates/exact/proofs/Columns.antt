@@ -19,9 +19,9 @@ use Rattle.raster.specs.Vector.{isMark}
 use Rattle.raster.specs.VectorLaws.{mark-abs, way-abs, way-ends}
 use Rattle.envelope.specs.Best.{noCost, noSite, priceOf, price, Site, bestSite}
 use Rattle.envelope.specs.BestLaws.{Least, Found, best-found}
+use Rattle.columns.proofs.Foot.{Foot, row, no-row}
 use Rattle.exact.specs.Nearest.{Exact, to-nearest, bare-sheet}
-use Rattle.exact.specs.Ways.{costOf, across, along}
-use Rattle.exact.proofs.Foot.{Foot, row, no-row}
+use Rattle.exact.specs.Rows.{costOf, across, along}
 
 -- a way to a row of the sheet is as long as the rows lie apart, and is not the mark
 way-cost : (y r h : ℕ) → h ≤ maxSide → y < h → r < h → costOf (pos r -ℤ pos y) ≡ gap y r * gap y r

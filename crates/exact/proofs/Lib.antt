@@ -2,13 +2,9 @@
 -- what the proofs of several functions share.
 pub mod Search
 pub mod Theorems
-pub mod Back
-pub mod Foot
 pub mod Columns
 pub mod Solved
 pub mod Numbers
-pub mod Spreading
-pub mod Passes
 pub mod Runs
 pub mod Prices
 pub mod Split

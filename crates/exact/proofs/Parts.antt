@@ -10,7 +10,7 @@ use lib.IntN.{ℤ, pos, negℤ, _+ℤ_, _-ℤ_, +ℤ-assoc, negℤ-+ℤ, +ℤ-ne
 use lib.ListN.{getD, length}
 use Rattle.raster.specs.Map.{dxAt, dyAt}
 use Rattle.envelope.specs.Best.{bestSite, Line}
-use Rattle.exact.specs.Ways.{costOf, costsOf, across, along, Written, part, CopperRun, CopperEnd, Next}
+use Rattle.exact.specs.Rows.{costOf, costsOf, across, along, Written, part, CopperRun, CopperEnd, Next}
 use Rattle.exact.proofs.Prices.{costs-at, priced-best}
 use Rattle.exact.proofs.Runs.{across-site, along-site, run-none, run-same, run-over}
 use Rattle.exact.proofs.Split.{copper-each, Part, part-at, Same, best-part, best-copper}

@@ -11,7 +11,7 @@ use Rattle.raster.specs.Pixels.{tabulate}
 use Rattle.raster.specs.PixelsLaws.{tabulate-at, tabulate-length}
 use Rattle.envelope.specs.Best.{noSite, better, bestSite}
 use Rattle.envelope.specs.BestLaws.{best-found}
-use Rattle.exact.specs.Ways.{costOf, along, wayAt, rowCosts, costsOf, Written}
+use Rattle.exact.specs.Rows.{costOf, along, wayAt, rowCosts, costsOf, Written}
 use Rattle.exact.proofs.Runs.{run-same}
 
 -- what stands in a working row whose first n numbers were written

@@ -11,7 +11,7 @@ use borrow.Author.Tests.{ne-eqb}
 use Rattle.raster.specs.Map.{Inside, dxAt, dyAt, put}
 use Rattle.raster.specs.MapLaws.{put-length, put-dx, put-dy, put-dx-other, put-dy-other}
 use Rattle.envelope.specs.Best.{noSite}
-use Rattle.exact.specs.Ways.{across, along, Written}
+use Rattle.exact.specs.Rows.{across, along, Written}
 
 -- a column below 2,048 is one, not none
 module _ (s : ℕ) (few : s < 2048) where

@@ -8,10 +8,11 @@ use lib.ListN.{length, getD}
 use Rattle.raster.specs.Limits.{maxSide}
 use Rattle.raster.specs.Pixels.{Mask, index}
 use Rattle.raster.specs.PixelsLaws.{tabulate-at}
+use Rattle.columns.specs.Column.{wayOf}
+use Rattle.columns.proofs.Foot.{foot}
 use Rattle.exact.specs.Nearest.{exactMap}
-use Rattle.exact.specs.Ways.{wayOf, costOf, wayAt, rowCosts, Solved}
+use Rattle.exact.specs.Rows.{costOf, wayAt, rowCosts, Solved}
 use Rattle.exact.proofs.Theorems.{only-exact}
-use Rattle.exact.proofs.Foot.{foot}
 use Rattle.exact.proofs.Columns.{site-exact}
 
 module _ (copper : Mask) (w h : ℕ) (wide : w ≤ maxSide) (tall : h ≤ maxSide) (m : List ℤ)

@@ -14,7 +14,7 @@ use Rattle.raster.specs.Map.{dxAt, dyAt}
 use Rattle.raster.specs.Pixels.{index}
 use Rattle.envelope.specs.Best.{bestSite}
 use Rattle.envelope.specs.BestLaws.{best-found}
-use Rattle.exact.specs.Ways.{costOf, wayAt, rowCosts, across, along, Written, Solved}
+use Rattle.exact.specs.Rows.{costOf, wayAt, rowCosts, across, along, Written, Solved}
 use Rattle.exact.proofs.Prices.{best-same, row-cost}
 
 -- pixels that are left alone, number by number

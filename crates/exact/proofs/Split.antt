@@ -18,7 +18,8 @@ use Rattle.raster.specs.Tests.{and-left, and-right}
 use Rattle.raster.specs.DistanceLaws.{gap-self, square-le}
 use Rattle.envelope.specs.Best.{noSite, priceOf, price, Site, bestSite}
 use Rattle.envelope.specs.BestLaws.{Found, best-found}
-use Rattle.exact.specs.Ways.{isZero, part, copperFrom}
+use Rattle.columns.specs.Column.{isZero}
+use Rattle.exact.specs.Rows.{part, copperFrom}
 
 -- ---- copper columns
 

@@ -1,3 +1,3 @@
--- `Nearest` is document 01's exact map; `Ways` is what the functions promise each other.
+-- `Nearest` is document 01's exact map; `Rows` is what the functions promise each other.
 pub mod Nearest
-pub mod Ways
+pub mod Rows

@@ -1,127 +1,23 @@
 // The exact map (document 01, "Engines"), in time linear in the pixels and in row order of memory.
 //
-// Two passes over the rows leave in the first half of the map, a number a pixel, how far the nearest copper of each pixel's column is, up or down,
-// whichever is shorter. Then each row is worked out by itself: a column costs the square of its way, and the lower envelope of the columns' parabolas
-// gives the nearest column of each pixel. Long runs of copper split a row into parts with an envelope each. The rows are worked out from the last to the
-// first, since the vectors of row y stand behind the ways of the rows above it. The working rows are local ones of 2,048 numbers.
+// `columns::ways` leaves in the first half of the map, a number a pixel, how far the nearest copper of each pixel's column is. Then each row is worked out
+// by itself: a column costs the square of its way, and the lower envelope of the columns' parabolas gives the nearest column of each pixel. Long runs of
+// copper split a row into parts with an envelope each. The rows are worked out from the last to the first, since the vectors of row y stand behind the
+// ways of the rows above it. The working rows are local ones of 2,048 numbers.
 ghost use mathlib.Core.Path.{_≡_};
-ghost use mathlib.Core.Bool.{not, _&&_};
+ghost use mathlib.Core.Bool.{_&&_};
 ghost use mathlib.Core.List.{_++_};
 ghost use Prim.Native.Nat.{ℕ, _+_, _-_, _*_, _≤_, _<_};
-ghost use lib.Dec.{eqb};
-ghost use lib.IntN.{pos, negsuc, _-ℤ_};
+ghost use lib.IntN.{pos, _-ℤ_};
 ghost use lib.ListN.{length, getD, drop};
 ghost use Rattle.raster.specs.Pixels.{tabulate};
 ghost use Rattle.raster.specs.Sheet.{copperOf};
 ghost use Rattle.raster.specs.Vector.{Short};
 ghost use Rattle.envelope.specs.Best.{noSite, bestSite, Line};
 ghost use Rattle.envelope.specs.Stack.{holder};
+ghost use Rattle.columns.specs.Column.{isZero};
 ghost use Rattle.exact.specs.Nearest.{exactMap, cleared};
-ghost use Rattle.exact.specs.Ways.{farther, up, shorter, costOf, Room, isZero, Spread, Held, shortened, wayAt, rowCosts, costsOf, Written, copperFrom, CopperRun, CopperEnd, Next, Solved};
-
-// ---- the ways within the columns
-
-// One step farther than v, or 0 on copper; −1 stays.
-fn step(copper: bool, v: i16) -> i16
-    requires { ⌜ Room v ⌝ }
-    ensures { λ r. ⌜ r ≡ farther copper v ⌝ }
-{
-    if copper {
-        return 0;
-    }
-    if v < 0 {
-        return -1;
-    }
-    v + 1
-}
-
-// The row that starts at `base`, downwards: `near` has the ways upwards of the row above, then those of this row, which are written to `ways` too.
-fn row_down(sheet: &[u8], ways: &mut [i16], near: &mut [i16], base: usize, w: usize)
-    requires { ⌜ (base + w ≤ length (now sheet)) × ((base + w ≤ length (now ways)) × (w ≤ length (now near))) ⌝ }
-    requires { ⌜ ((x : ℕ) → x < w → Room (getD (now near) x (pos 0))) ⌝ }
-    ensures { λ _. ⌜ Spread base w (λ x. not (eqb (getD (now (sheet .entry)) (base + x) 0) 0)) (λ x v. v) (now (ways .entry)) (now (near .entry)) (now (ways .exit)) (now (near .exit)) ⌝ }
-{
-    for x in 0..w {
-        let v = step(sheet[base + x] != 0, near[x]);
-        near[x] = v;
-        ways[base + x] = v;
-    }
-}
-
-// All rows from the top.
-fn rows_down(sheet: &[u8], ways: &mut [i16], near: &mut [i16], w: usize, h: usize)
-    requires { ⌜ (h ≤ 2048) × ((length (now sheet) ≡ h * w) × ((h * w ≤ length (now ways)) × (w ≤ length (now near)))) ⌝ }
-    requires { ⌜ ((x : ℕ) → x < w → getD (now near) x (pos 0) ≡ negsuc 0) ⌝ }
-    ensures { λ _. ⌜ Held w h (up (copperOf (now (sheet .entry)) w)) (now (ways .entry)) (now (ways .exit)) ⌝ }
-{
-    for y in 0..h {
-        row_down(sheet, ways, near, y * w, w);
-    }
-}
-
-// The ways upwards of all pixels.
-fn pass_down(sheet: &[u8], ways: &mut [i16], w: usize, h: usize)
-    requires { ⌜ (w ≤ 2048) × ((h ≤ 2048) × ((length (now sheet) ≡ h * w) × (h * w ≤ length (now ways)))) ⌝ }
-    ensures { λ _. ⌜ Held w h (up (copperOf (now (sheet .entry)) w)) (now (ways .entry)) (now (ways .exit)) ⌝ }
-{
-    let mut above = [-1i16; 2048];
-    rows_down(sheet, ways, &mut above, w, h);
-}
-
-// The shorter of two ways as a component, among equals upwards.
-fn shorter_of(u: i16, d: i16) -> i16
-    ensures { λ r. ⌜ r ≡ shorter u d ⌝ }
-{
-    if u < 0 {
-        if d < 0 {
-            return -32768;
-        }
-        return d;
-    }
-    if d >= 0 {
-        if d < u {
-            return d;
-        }
-    }
-    0 - u
-}
-
-// The row that starts at `base`, upwards: `near` has the ways downwards of the row below, then those of this row, and `ways` goes from the ways upwards
-// to the shorter ones. Copper is where the way upwards is 0.
-fn row_up(ways: &mut [i16], near: &mut [i16], base: usize, w: usize)
-    requires { ⌜ (base + w ≤ length (now ways)) × (w ≤ length (now near)) ⌝ }
-    requires { ⌜ ((x : ℕ) → x < w → Room (getD (now near) x (pos 0))) ⌝ }
-    ensures { λ _. ⌜ Spread base w (λ x. isZero (getD (now (ways .entry)) (base + x) (pos 0))) (λ x v. shorter (getD (now (ways .entry)) (base + x) (pos 0)) v) (now (ways .entry)) (now (near .entry)) (now (ways .exit)) (now (near .exit)) ⌝ }
-{
-    for x in 0..w {
-        let u = ways[base + x];
-        let d = step(u == 0, near[x]);
-        near[x] = d;
-        ways[base + x] = shorter_of(u, d);
-    }
-}
-
-// All rows from the bottom.
-fn rows_up(ways: &mut [i16], near: &mut [i16], w: usize, h: usize)
-    requires { ⌜ (h ≤ 2048) × ((h * w ≤ length (now ways)) × (w ≤ length (now near))) ⌝ }
-    requires { ⌜ ((x : ℕ) → x < w → getD (now near) x (pos 0) ≡ negsuc 0) ⌝ }
-    ensures { λ _. ⌜ Held w h (shortened (now (ways .entry)) w h) (now (ways .entry)) (now (ways .exit)) ⌝ }
-{
-    let mut y = h;
-    while 0 < y {
-        y -= 1;
-        row_up(ways, near, y * w, w);
-    }
-}
-
-// The shorter ways of all pixels, from the ways upwards.
-fn pass_up(ways: &mut [i16], w: usize, h: usize)
-    requires { ⌜ (w ≤ 2048) × ((h ≤ 2048) × (h * w ≤ length (now ways))) ⌝ }
-    ensures { λ _. ⌜ Held w h (shortened (now (ways .entry)) w h) (now (ways .entry)) (now (ways .exit)) ⌝ }
-{
-    let mut below = [-1i16; 2048];
-    rows_up(ways, &mut below, w, h);
-}
+ghost use Rattle.exact.specs.Rows.{costOf, wayAt, rowCosts, costsOf, Written, copperFrom, CopperRun, CopperEnd, Next, Solved};
 
 // ---- one row
 
@@ -437,8 +333,7 @@ pub fn exact(sheet: &[u8], map: &mut [i16], scratch: &mut [i16], w: usize, h: us
     ensures { λ _. ⌜ now (map .exit) ≡ exactMap (copperOf (now (sheet .entry)) w) w h ⌝ }
     ensures { λ _. ⌜ now (scratch .exit) ≡ cleared (h * w) (now (scratch .entry)) ⌝ }
 {
-    pass_down(sheet, map, w, h);
-    pass_up(map, w, h);
+    columns::ways(sheet, map, w, h);
     solve(map, w, h);
     zero(scratch, h * w);
 }

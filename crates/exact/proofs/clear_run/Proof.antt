@@ -5,7 +5,7 @@ use mathlib.Core.Path.{_≡_}
 use Prim.Native.Nat.{_-_, _≤_}
 use native.Mathlib.Omega.{arith}
 use lib.IntN.{pos}
-use Rattle.exact.specs.Ways.{Written}
+use Rattle.exact.specs.Rows.{Written}
 use Rattle.exact.proofs.Runs.{run-none, run-more}
 use Rattle.exact.proofs.clear_run.Statement.{statement}
 use Rattle.exact.proofs.clear_run.Tie as tie

@@ -8,7 +8,7 @@ use lib.ListN.{getD}
 use mir.Syntax.{w16}
 use mir.Val.{SFits}
 use mir.ValLaws.{toZ-ofZ}
-use Rattle.exact.specs.Ways.{wayAt}
+use Rattle.exact.specs.Rows.{wayAt}
 use Rattle.raster.proofs.Writing.{Writing, write-none, write-more}
 use Rattle.exact.proofs.copy_row.Statement.{statement}
 use Rattle.exact.proofs.copy_row.Tie as tie

@@ -1,10 +1,7 @@
--- `exact::exact` meets its contract: both passes leave the ways of the columns (`both-passes`), and the rows solved over them are the exact map
--- (`solved-exact`).
+-- `exact::exact` meets its contract: over the ways of the columns the rows solved are the exact map (`solved-exact`).
 -- Assumes nothing.
 use native.Mathlib.Omega.{arith}
 use borrow.Author.Needs.{needs}
-use Rattle.raster.specs.Sheet.{copperOf}
-use Rattle.exact.proofs.Passes.{both-passes}
 use Rattle.exact.proofs.Solved.{solved-exact}
 use Rattle.exact.proofs.exact.Statement.{statement}
 use Rattle.exact.proofs.exact.Tie as tie
@@ -13,20 +10,8 @@ returns : tie.Need-returns
 returns c =
     let s = c .before .before .before .before in
     let u = s .before .before .before in
-    let d = u .before .before .before in
-    let z = d .before .before .before in
-    let b = both-passes (copperOf (z .args .sheet .now) (z .args .w)) (d .pass-down .ensures) (u .pass-up .ensures) in
-    (solved-exact _ _ _ (z .pre .0 .0) (z .pre .0 .1) _ (b .at) _ (omega arith) (s .solve .ensures), c .before .zero .ensures)
+    let z = u .before .before .before in
+    (solved-exact _ _ _ (z .pre .0 .0) (z .pre .0 .1) _ (u .ways .ensures .at) _ (omega arith) (s .solve .ensures), c .before .zero .ensures)
 
 pub exact-spec : {M : Type 1} → statement M
-exact-spec =
-    tie.close
-    (tie.spec
-    (λ c κs. search needs)
-    (λ c κs. search needs)
-    (λ c κs. search needs)
-    (λ c. search needs)
-    (λ c κs. search needs)
-    (λ c. search needs)
-    (λ c. search needs)
-    returns)
+exact-spec = tie.close (tie.spec (λ c κs. search needs) (λ c κs. search needs) (λ c. search needs) (λ c κs. search needs) (λ c. search needs) (λ c. search needs) returns)

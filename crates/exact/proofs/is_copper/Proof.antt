@@ -8,7 +8,7 @@ use lib.ListN.{getD}
 use mir.Syntax.{w16}
 use mir.Val.{SFits}
 use mir.ValLaws.{toZ-ofZ}
-use Rattle.exact.specs.Ways.{copperFrom}
+use Rattle.exact.specs.Rows.{copperFrom}
 use Rattle.exact.proofs.Split.{copper-none, copper-more}
 use Rattle.exact.proofs.is_copper.Statement.{statement}
 use Rattle.exact.proofs.is_copper.Tie as tie

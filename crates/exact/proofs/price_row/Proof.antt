@@ -8,7 +8,7 @@ use mathlib.Core.Path.{_≡_, ap, _∙_}
 use mir.Syntax.{w32}
 use mir.Val.{SFits}
 use mir.ValLaws.{toZ-ofZ}
-use Rattle.exact.specs.Ways.{costOf, costsOf}
+use Rattle.exact.specs.Rows.{costOf, costsOf}
 use Rattle.raster.proofs.Writing.{Writing, write-none, write-more}
 use Rattle.exact.proofs.price_row.Statement.{statement}
 use Rattle.exact.proofs.price_row.Tie as tie

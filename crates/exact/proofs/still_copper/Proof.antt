@@ -3,7 +3,7 @@
 use mathlib.Core.Path.{sym}
 use mathlib.Core.Bool.{and-true, and-false}
 use borrow.Author.Tests.{eq-eqb, ne-eqb}
-use Rattle.exact.proofs.Numbers.{zero-bits}
+use Rattle.columns.proofs.Numbers.{zero-bits}
 use Rattle.exact.proofs.still_copper.Statement.{statement}
 use Rattle.exact.proofs.still_copper.Tie as tie
 

@@ -10,7 +10,7 @@ use mir.Val.{SFits}
 use mir.ValLaws.{toZ-ofZ}
 use Rattle.envelope.specs.Stack.{holder}
 use Rattle.envelope.proofs.StackLaws.{Unstacked, unstack-none, unstack-top, unstack-more, unstack-all}
-use Rattle.exact.specs.Ways.{Written}
+use Rattle.exact.specs.Rows.{Written}
 use Rattle.exact.proofs.Runs.{run-none, run-join}
 use Rattle.exact.proofs.write_row.Statement.{statement}
 use Rattle.exact.proofs.write_row.Tie as tie

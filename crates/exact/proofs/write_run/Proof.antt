@@ -6,7 +6,7 @@ use native.Mathlib.Omega.{arith}
 use mir.Syntax.{w32}
 use mir.Val.{SFits, toZ, ofZ}
 use mir.ValLaws.{toZ-ofZ}
-use Rattle.exact.specs.Ways.{Written}
+use Rattle.exact.specs.Rows.{Written}
 use Rattle.exact.proofs.Runs.{across-site, along-site, run-none, run-more, run-end}
 use Rattle.exact.proofs.write_run.Statement.{statement}
 use Rattle.exact.proofs.write_run.Tie as tie

@@ -1,4 +1,4 @@
--- `exact::row_up` meets its contract. The invariant: the first x pixels of the row are spread, and `near` is as it was from there on.
+-- `columns::row_up` meets its contract. The invariant: the first x pixels of the row are spread, and `near` is as it was from there on.
 -- Assumes nothing.
 use mathlib.Core.Path.{_≡_, _∙_}
 use Prim.Native.Nat.{_+_, _-_}
@@ -8,11 +8,11 @@ use lib.ListN.{getD}
 use mir.Syntax.{w16}
 use mir.Val.{SFits, toZ, ofZ}
 use mir.ValLaws.{toZ-ofZ}
-use Rattle.exact.specs.Ways.{isZero, shorter}
-use Rattle.exact.proofs.Numbers.{zero-bits}
-use Rattle.exact.proofs.Spreading.{SpreadTo, spread-none, spread-more, spread-all}
-use Rattle.exact.proofs.row_up.Statement.{statement}
-use Rattle.exact.proofs.row_up.Tie as tie
+use Rattle.columns.specs.Column.{isZero, shorter}
+use Rattle.columns.proofs.Numbers.{zero-bits}
+use Rattle.columns.proofs.Spreading.{SpreadTo, spread-none, spread-more, spread-all}
+use Rattle.columns.proofs.row_up.Statement.{statement}
+use Rattle.columns.proofs.row_up.Tie as tie
 
 abbrev Inv-loop : tie.InvT-loop
 Inv-loop ways₀ near₀ base w x₀ ways near x = SpreadTo base w (λ z. isZero (getD ways₀ (base + z) (pos 0))) (λ z v. shorter (getD ways₀ (base + z) (pos 0)) v) ways₀ near₀ x ways near

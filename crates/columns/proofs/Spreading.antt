@@ -9,7 +9,8 @@ use lib.IntN.{ℤ, pos}
 use lib.ListN.{length, getD, set, length-set}
 use lib.Seq.{getD-set-same, getD-set-other}
 use Rattle.raster.proofs.Writing.{set-more}
-use Rattle.exact.specs.Ways.{farther, Spread}
+use Rattle.columns.specs.Column.{farther}
+use Rattle.columns.specs.Passes.{Spread}
 
 -- the first x pixels of the row are spread, and `near` is as it was from there on
 pub record SpreadTo (base w : ℕ) (copper : ℕ → Bool) (made : ℕ → ℤ → ℤ) (ways near : List ℤ) (x : ℕ) (ways′ near′ : List ℤ) : Type 0 where

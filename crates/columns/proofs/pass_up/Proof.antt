@@ -1,11 +1,11 @@
--- `exact::pass_up` meets its contract: below the last row there is no copper.
+-- `columns::pass_up` meets its contract: below the last row there is no copper.
 -- Assumes nothing.
 use native.Mathlib.Omega.{arith}
 use lib.IntN.{pos, negsuc}
 use lib.ListN.{getD-replicate}
 use borrow.Author.Needs.{needs}
-use Rattle.exact.proofs.pass_up.Statement.{statement}
-use Rattle.exact.proofs.pass_up.Tie as tie
+use Rattle.columns.proofs.pass_up.Statement.{statement}
+use Rattle.columns.proofs.pass_up.Tie as tie
 
 rows-up-requires : tie.Need-rows-up-requires
 rows-up-requires c κs = (omega arith, λ x l. getD-replicate 2048 x (negsuc 0) (pos 0) (omega arith))

@@ -1,13 +1,13 @@
--- `exact::shorter_of` meets its contract, arm by arm, by the laws of `shorter`.
+-- `columns::shorter_of` meets its contract, arm by arm, by the laws of `shorter`.
 -- Assumes nothing.
 use mathlib.Core.Logic.{inl, inr, ⊎-elim}
 use lib.IntN.{ℤ, negℤ, +ℤ-idl}
 use mir.Syntax.{w16}
 use mir.Val.{SFits, toZ, ofZ}
 use mir.ValLaws.{toZ-ofZ}
-use Rattle.exact.proofs.Numbers.{shorter-neither, shorter-down, shorter-less, shorter-up, minus-fits}
-use Rattle.exact.proofs.shorter_of.Statement.{statement}
-use Rattle.exact.proofs.shorter_of.Tie as tie
+use Rattle.columns.proofs.Numbers.{shorter-neither, shorter-down, shorter-less, shorter-up, minus-fits}
+use Rattle.columns.proofs.shorter_of.Statement.{statement}
+use Rattle.columns.proofs.shorter_of.Tie as tie
 
 -- a number, read back from its bits
 abbrev back : ℤ → ℤ

@@ -1,87 +1,23 @@
--- What the code works out on the way to the exact map: how far the nearest copper of a pixel's column is, upwards and downwards, and what the columns
--- cost in the envelope of a row.
+-- What the code works out on the way to the exact map: what the columns cost in the envelope of a row, and the vectors to the best columns.
 -- Assumes nothing.
 use mathlib.Core.Path.{_≡_}
-use mathlib.Core.Bool.{Bool, true, false, cond, _&&_}
+use mathlib.Core.Bool.{Bool, true, cond, _&&_}
 use mathlib.Core.List.{List}
 use Prim.Native.Nat.{ℕ, zero, suc, _+_, _-_, _*_, _<_, _≤_}
-use lib.Dec.{leb, eqb}
-use lib.IntN.{ℤ, pos, negsuc, negℤ, natAbs, _-ℤ_}
+use lib.Dec.{eqb}
+use lib.IntN.{ℤ, pos, natAbs, _-ℤ_}
 use lib.ListN.{length, getD, take, drop}
-use lib.Signed.{mag}
-use Rattle.raster.specs.Pixels.{Mask, index, tabulate}
+use Rattle.raster.specs.Pixels.{index, tabulate}
 use Rattle.raster.specs.Vector.{mark, isMark}
 use Rattle.raster.specs.Map.{dxAt, dyAt}
 use Rattle.envelope.specs.Best.{noCost, noSite, bestSite}
+use Rattle.columns.specs.Column.{isZero}
 
--- ---- within a column
-
--- how far copper is along a line of pixels, one step farther on than v; 0 on copper, −1 while there is none
-abbrev pub farther : (copper : Bool) → ℤ → ℤ
-farther true v = pos 0
-farther false (pos n) = pos (n + 1)
-farther false (negsuc n) = negsuc 0
-
--- how far it is back from the t-th pixel of the line
-unfoldable pub far : (line : ℕ → Bool) (t : ℕ) → ℤ
-far line zero = farther (line 0) (negsuc 0)
-far line (suc t) = farther (line (suc t)) (far line t)
-
--- upwards and downwards in column x from row y
-abbrev pub up : (copper : Mask) (x y : ℕ) → ℤ
-up copper x y = far (copper x) y
-
-abbrev pub down : (copper : Mask) (h x y : ℕ) → ℤ
-down copper h x y = far (λ t. copper x (h - 1 - t)) (h - 1 - y)
-
--- the shorter of the two as a component of a vector, among equals upwards; the mark where there is neither
-abbrev pub shorter : (u d : ℤ) → ℤ
-shorter (pos u) (pos d) = cond (leb u d) (negℤ (pos u)) (pos d)
-shorter (pos u) (negsuc d) = negℤ (pos u)
-shorter (negsuc u) (pos d) = pos d
-shorter (negsuc u) (negsuc d) = mark
-
--- the way of the pixel (x, y) to the nearest copper of its column
-abbrev pub wayOf : (copper : Mask) (h x y : ℕ) → ℤ
-wayOf copper h x y = shorter (up copper x y) (down copper h x y)
+-- ---- a row, whose first pixel is at base
 
 -- what a column with that way costs: its square, and no site where there is none
 abbrev pub costOf : ℤ → ℕ
 costOf v = cond (isMark v) noCost (natAbs v * natAbs v)
-
--- ---- the two passes over the rows
-
--- a number that can be one step farther
-abbrev pub Room : ℤ → Type 0
-Room v = mag v < 32767
-
--- the way upwards is 0 on copper alone
-abbrev pub isZero : ℤ → Bool
-isZero (pos n) = eqb n 0
-isZero (negsuc n) = false
-
--- the row that starts at base: `near` is one step farther on, the row has what `made` makes of it, and nothing else changes
-pub record Spread (base w : ℕ) (copper : ℕ → Bool) (made : ℕ → ℤ → ℤ) (ways near ways′ near′ : List ℤ) : Type 0 where
-  pub long : length ways′ ≡ length ways
-  pub near-long : length near′ ≡ length near
-  pub steps : (x : ℕ) → x < w → getD near′ x (pos 0) ≡ farther (copper x) (getD near x (pos 0))
-  pub here : (x : ℕ) → x < w → getD ways′ (base + x) (pos 0) ≡ made x (getD near′ x (pos 0))
-  pub under : (i : ℕ) → i < base → getD ways′ i (pos 0) ≡ getD ways i (pos 0)
-  pub over : (i : ℕ) → base + w ≤ i → getD ways′ i (pos 0) ≡ getD ways i (pos 0)
-
--- every pixel has f
-pub record Held (w h : ℕ) (f : (x y : ℕ) → ℤ) (before after : List ℤ) : Type 0 where
-  pub long : length after ≡ length before
-  pub at : (x y : ℕ) → x < w → y < h → getD after (index w x y) (pos 0) ≡ f x y
-
--- the shorter way of each pixel, from a list of the ways upwards
-abbrev pub metal : List ℤ → (w : ℕ) → Mask
-metal ups w x y = isZero (getD ups (index w x y) (pos 0))
-
-abbrev pub shortened : List ℤ → (w h x y : ℕ) → ℤ
-shortened ups w h x y = shorter (getD ups (index w x y) (pos 0)) (down (metal ups w) h x y)
-
--- ---- a row, whose first pixel is at base
 
 -- the way of column k, and the costs of all columns
 abbrev pub wayAt : List ℤ → (base k : ℕ) → ℤ

@@ -1,4 +1,4 @@
--- `exact::rows_up` meets its contract. The invariant: the rows from y on hold the shorter ways, and `near` the ways downwards of row y.
+-- `columns::rows_up` meets its contract. The invariant: the rows from y on hold the shorter ways, and `near` the ways downwards of row y.
 -- Assumes nothing.
 use mathlib.Core.Path.{_≡_, ap}
 use Prim.Native.Nat.{_+_, _*_, _-_, _<_, _≤_}
@@ -7,10 +7,11 @@ use native.Mathlib.Omega.{arith}
 use lib.IntN.{ℤ, pos}
 use lib.ListN.{getD}
 use Rattle.raster.specs.Pixels.{index}
-use Rattle.exact.specs.Ways.{shorter, isZero, metal}
-use Rattle.exact.proofs.Passes.{Pass, pass-none, pass-room, pass-more, pass-all}
-use Rattle.exact.proofs.rows_up.Statement.{statement}
-use Rattle.exact.proofs.rows_up.Tie as tie
+use Rattle.columns.specs.Column.{shorter, isZero}
+use Rattle.columns.specs.Passes.{metal}
+use Rattle.columns.proofs.Passes.{Pass, pass-none, pass-room, pass-more, pass-all}
+use Rattle.columns.proofs.rows_up.Statement.{statement}
+use Rattle.columns.proofs.rows_up.Tie as tie
 
 abbrev Inv-loop : tie.InvT-loop
 Inv-loop ways₀ near₀ w h y₀ ways near y = Pass w h (λ t. h - 1 - t) (metal ways₀ w) (λ x y. shorter (getD ways₀ (index w x y) (pos 0))) ways₀ near₀ (h - y) ways near × (y ≤ h)

@@ -1,4 +1,4 @@
--- `exact::row_down` meets its contract. The invariant: the first x pixels of the row are spread, and `near` is as it was from there on.
+-- `columns::row_down` meets its contract. The invariant: the first x pixels of the row are spread, and `near` is as it was from there on.
 -- Assumes nothing.
 use mathlib.Core.Path.{_≡_, refl, _∙_}
 use mathlib.Core.Bool.{not}
@@ -10,9 +10,9 @@ use lib.ListN.{getD}
 use mir.Syntax.{w16}
 use mir.Val.{SFits, toZ, ofZ}
 use mir.ValLaws.{toZ-ofZ}
-use Rattle.exact.proofs.Spreading.{SpreadTo, spread-none, spread-more, spread-all}
-use Rattle.exact.proofs.row_down.Statement.{statement}
-use Rattle.exact.proofs.row_down.Tie as tie
+use Rattle.columns.proofs.Spreading.{SpreadTo, spread-none, spread-more, spread-all}
+use Rattle.columns.proofs.row_down.Statement.{statement}
+use Rattle.columns.proofs.row_down.Tie as tie
 
 abbrev Inv-loop : tie.InvT-loop
 Inv-loop sheet ways₀ near₀ base w x₀ ways near x = SpreadTo base w (λ z. not (eqb (getD sheet (base + z) 0) 0)) (λ z v. v) ways₀ near₀ x ways near

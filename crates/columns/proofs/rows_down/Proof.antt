@@ -1,13 +1,13 @@
--- `exact::rows_down` meets its contract. The invariant: the first y rows hold the ways upwards, and `near` those of the row above row y.
+-- `columns::rows_down` meets its contract. The invariant: the first y rows hold the ways upwards, and `near` those of the row above row y.
 -- Assumes nothing.
 use mathlib.Core.Path.{refl}
 use Prim.Native.Nat.{_+_, _*_, _-_, _<_, _≤_}
 use native.Mathlib.Nat.{mul-le-mul-right}
 use native.Mathlib.Omega.{arith}
 use Rattle.raster.specs.Sheet.{copperOf}
-use Rattle.exact.proofs.Passes.{Pass, pass-none, pass-room, pass-more, pass-all}
-use Rattle.exact.proofs.rows_down.Statement.{statement}
-use Rattle.exact.proofs.rows_down.Tie as tie
+use Rattle.columns.proofs.Passes.{Pass, pass-none, pass-room, pass-more, pass-all}
+use Rattle.columns.proofs.rows_down.Statement.{statement}
+use Rattle.columns.proofs.rows_down.Tie as tie
 
 abbrev Inv-loop : tie.InvT-loop
 Inv-loop sheet ways₀ near₀ w h y₀ ways near y = Pass w h (λ t. t) (copperOf sheet w) (λ x y v. v) ways₀ near₀ y ways near

@@ -6,7 +6,7 @@ use Prim.Native.Nat.{ℕ, zero, suc, _+_, _-_, _<_, _≤_}
 use native.Mathlib.Decide.{decLe}
 use native.Mathlib.Omega.{arith}
 use lib.IntN.{ℤ, pos, negsuc}
-use Rattle.exact.specs.Ways.{farther, far}
+use Rattle.columns.specs.Column.{farther, far}
 
 pub data Back (line : ℕ → Bool) (t : ℕ) : ℤ → Type 0 where
   found : (n : ℕ) → n ≤ t → line (t - n) ≡ true → ((m : ℕ) → m < n → line (t - m) ≡ false) → Back line t (pos n)

@@ -1,9 +1,9 @@
--- `exact::step` meets its contract, arm by arm.
+-- `columns::step` meets its contract, arm by arm.
 -- Assumes nothing.
 use mir.ValLaws.{toZ-ofZ}
-use Rattle.exact.proofs.Numbers.{farther-none, farther-some}
-use Rattle.exact.proofs.step.Statement.{statement}
-use Rattle.exact.proofs.step.Tie as tie
+use Rattle.columns.proofs.Numbers.{farther-none, farther-some}
+use Rattle.columns.proofs.step.Statement.{statement}
+use Rattle.columns.proofs.step.Tie as tie
 
 returns : tie.Need-returns
 returns c = rw (c .if1 .taken)

@@ -16,7 +16,8 @@ use lib.Signed.{mag}
 use borrow.Author.Tests.{ne-eqb}
 use Rattle.raster.specs.Pixels.{Mask, index}
 use Rattle.raster.specs.PixelsLaws.{index-inside}
-use Rattle.exact.specs.Ways.{farther, far, up, shorter, wayOf, Room, isZero, metal, shortened, Spread, Held}
+use Rattle.columns.specs.Column.{farther, far, up, shorter, wayOf, isZero, Held}
+use Rattle.columns.specs.Passes.{Room, metal, shortened, Spread}
 
 -- ---- a line
 

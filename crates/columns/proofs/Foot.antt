@@ -13,8 +13,8 @@ use Rattle.raster.specs.Pixels.{Mask}
 use Rattle.raster.specs.Tests.{cond-ind}
 use Rattle.raster.specs.Vector.{mark}
 use Rattle.raster.specs.VectorLaws.{way-back, way-on}
-use Rattle.exact.specs.Ways.{shorter, wayOf}
-use Rattle.exact.proofs.Back.{Back, found, nothing, back}
+use Rattle.columns.specs.Column.{shorter, wayOf}
+use Rattle.columns.proofs.Back.{Back, found, nothing, back}
 
 -- r is the row of the nearest copper of column i from row y, among equals the least row
 pub record NearestRow (copper : Mask) (h i y r : ℕ) : Type 0 where
