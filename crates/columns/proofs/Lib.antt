@@ -1,4 +1,4 @@
--- `Foot` is what callers cite of the ways, and `Numbers` the test for 0 by its bits; `Back` leads up to `Foot`. Below: what the proofs of several functions share.
+-- Callers cite `Foot`, to which `Back` leads up, and of `Numbers` the test for 0. `Numbers`, `Spreading` and `Passes` are what the functions' proofs share.
 mod Back
 pub mod Foot
 pub mod Numbers

@@ -45,9 +45,9 @@ module _ {base from : ℕ} {v : ℕ → ℤ} {best : ℕ → ℕ} {m : List ℤ}
     over = λ p l. (refl, refl);
   }
 
-  pub run-more : {x : ℕ} {n o : List ℤ} → Written base from x v best m n → from ≤ x → Inside (base + x) n
-      → o ≡ put (base + x) (across (best x) x) (along v (best x)) n → Written base from (x + 1) v best m o
-  run-more {x} {n} w h i e = rw e (record {
+  pub run-more : {x : ℕ} {dx dy : ℤ} {n o : List ℤ} → Written base from x v best m n → from ≤ x → Inside (base + x) n
+      → dx ≡ across (best x) x → dy ≡ along v (best x) → o ≡ put (base + x) dx dy n → Written base from (x + 1) v best m o
+  run-more {x} {n = n} w h i f g e = rw (e, f, g) (record {
     long = put-length (base + x) _ _ n ∙ w .long;
     dx = λ z l k. elim (ℕ-discrete z x) [
       | yes q ↦ rw q (put-dx (base + x) _ _ n i)

@@ -1,7 +1,7 @@
 -- `exact::clear_run` meets its contract. The invariant: the first x pixels of the row are unlabelled, the rest of the map is as it was.
 -- Assumes nothing.
 use Rattle.envelope.specs.Best.{noSite}
-use mathlib.Core.Path.{_≡_}
+use mathlib.Core.Path.{_≡_, refl}
 use Prim.Native.Nat.{_-_, _≤_}
 use native.Mathlib.Omega.{arith}
 use lib.IntN.{pos}
@@ -22,7 +22,7 @@ loop-holds c = (run-none, omega arith)
 loop-again : tie.Need-loop-again Inv-loop μ-loop
 loop-again c =
     let l = c .before .before .before .before .loop in
-    (run-more (l .inv .0) (omega arith) (omega arith) (c .before .put-at .ensures), omega arith)
+    (run-more (l .inv .0) (omega arith) (omega arith) refl refl (c .before .put-at .ensures), omega arith)
 
 returns : tie.Need-returns Inv-loop μ-loop
 returns c =

@@ -22,7 +22,7 @@ loop-again : tie.Need-loop-again Inv-loop μ-loop
 loop-again c =
     let l = c .before .before .before .before in
     let a = across-self (l .loop .x) (omega arith) in
-    (run-more (l .loop .inv .0) (omega arith) (omega arith) (cc (c .before .put-at .ensures, a .0, a .1)), (omega arith, omega arith))
+    (run-more (l .loop .inv .0) (omega arith) (omega arith) (a .0) (a .1) (c .before .put-at .ensures), (omega arith, omega arith))
 
 returns : tie.Need-returns Inv-loop μ-loop
 returns c =

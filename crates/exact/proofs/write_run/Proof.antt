@@ -33,7 +33,7 @@ loop-again c =
     let s = l .before .args in
     let e = toZ-ofZ w32 _ (record { sfits = w .column-way .ok }) ∙ w .column-way .ensures .0 ∙ across-site (s .s) (omega arith) (l .loop .x) in
     let d = along-site (s .s) (omega arith) (λ b. toZ w32 (ofZ w32 (s .v))) in
-    (run-more (l .loop .inv .0) (omega arith) (omega arith) (cc (c .before .put-at .ensures, e, d)), (omega arith, omega arith))
+    (run-more (l .loop .inv .0) (omega arith) (omega arith) e d (c .before .put-at .ensures), (omega arith, omega arith))
 
 returns : tie.Need-returns Inv-loop μ-loop
 returns c =
