@@ -6,7 +6,7 @@ use lib.IntN.{ℤ}
 use Rattle.guarantee.specs.Board.{blank}
 use Rattle.guarantee.specs.Claims.{Holds}
 use Rattle.guarantee.proofs.Theorems.{guarantee}
-use Rattle.job.specs.Format.{Order}
+use Rattle.records.specs.Format.{Order}
 use Rattle.job.specs.Run.{startOf, callsOf}
 
 pub every-job : (os : List Order) (sheet : List ℕ) (map scratch : List ℤ)

@@ -14,17 +14,10 @@ use Rattle.session.specs.Calls.{onDone, openAnswer, fillAnswer, filledBy, build
 use Rattle.session.specs.State.{openedAs, stale}
 use Rattle.raster.specs.Map.{unmapped}
 use Rattle.raster.specs.Sheet.{bare}
-use Rattle.job.specs.Format.{Order, word, sizeOf, splits, ordersIn, ordersOf}
-use Rattle.job.specs.Text.{textFrom}
+use Rattle.records.specs.Format.{Order, word, sizeOf, splits, ordersIn, ordersOf}
+use Rattle.records.specs.Text.{textFrom}
 use Rattle.job.specs.declared.Done.{Done}
 use Rattle.job.specs.Run.{Bench, sheetOf, mapOf, answerOf, stepped, callsOf, benchAfter, answersOf, reportOf}
-
--- a whole record of a known kind stands at the front of the bytes
-pub record Here (b : List ℕ) : Type 0 where
-  pub known : (1 ≤ word b 2) × (word b 2 ≤ 9)
-  pub header : 4 ≤ length b
-  pub said : word b 0 ≡ sizeOf (word b 2)
-  pub size : sizeOf (word b 2) ≤ length b
 
 -- ---- what the functions that obey one kind of record leave, by the record's fields
 

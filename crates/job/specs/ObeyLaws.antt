@@ -16,9 +16,9 @@ use Rattle.session.specs.declared.Session.{Session}
 use Rattle.session.specs.declared.Reply.{Reply}
 use Rattle.morphology.specs.Resize.{expanded, shrunk}
 use Rattle.job.specs.declared.Done.{Done}
-use Rattle.job.specs.Format.{opening, paint, erase, build, expand, shrink, word, sizeOf, sizeHere}
+use Rattle.records.specs.Format.{opening, paint, erase, build, expand, shrink}
 use Rattle.job.specs.Run.{benchOf}
-use Rattle.job.specs.Obey.{upto, Here, Obeyed, Opened, Filled, Built, Resized}
+use Rattle.job.specs.Obey.{upto, Obeyed, Opened, Filled, Built, Resized}
 
 -- the first n elements, or all of them
 pub upto-take : {A : Type 0} (n : ℕ) (l : List A) {r : ℕ} → r ≡ upto n (length l) → take r l ≡ take n l
@@ -65,49 +65,12 @@ module _ {A : Type 0} (n : ℕ) (l p : List A) {r : ℕ} (e : r ≡ upto n (leng
   pub upto-behind : drop n (p ++ drop r l) ≡ drop n l
   upto-behind = rw (upto-drop n l e) (part-behind n l p (same ∙ ap length (upto-take n l e)))
 
--- ---- a whole record of a known kind
-
--- a kind above 9 has no length, and neither has 0
-no-size : (k : ℕ) → 9 < k → sizeOf k ≡ 0
-unfolding sizeOf
-no-size k h =
-    rw (ne-eqb k 2 (omega arith), ne-eqb k 3 (omega arith), ne-eqb k 5 (omega arith), ne-eqb k 4 (omega arith), ne-eqb k 7 (omega arith), lt-leb k 9 h, and-false)
-
-has-size : (k : ℕ) → (sizeOf k ≡ 0 → ⊥) → (1 ≤ k) × (k ≤ 9)
-unfolding sizeOf
-has-size zero some = absurd (some refl)
-has-size (suc k) some = elim (decLe (suc k) 9) [ yes h ↦ (omega arith, h) | no h ↦ absurd (some (no-size (suc k) (omega arith))) ]
-
-pub here : (b : List ℕ) {size : ℕ} → size ≡ sizeHere b → (size ≡ 0 → ⊥) → Here b
-unfolding sizeHere
-here b {size} is some = go (leb 4 (length b)) refl (eqb (word b 0) (sizeOf (word b 2)) && leb (word b 0) (length b)) refl is
-  where
-    go : (t : Bool) → leb 4 (length b) ≡ t → (u : Bool) → eqb (word b 0) (sizeOf (word b 2)) && leb (word b 0) (length b) ≡ u
-        → size ≡ cond t (cond u (word b 0) 0) 0 → Here b
-    go false p u q e = absurd (some e)
-    go true p false q e = absurd (some e)
-    go true p true q e =
-        let same = eqb-true (word b 0) (sizeOf (word b 2)) (and-left (eqb (word b 0) (sizeOf (word b 2))) _ q) in
-        let fits = leb-true (word b 0) (length b) (and-right (eqb (word b 0) (sizeOf (word b 2))) _ q) in
-        record {
-          known = has-size (word b 2) (λ z. some (e ∙ same ∙ z));
-          header = leb-true 4 (length b) p;
-          said = same;
-          size = omega (arith, same, fits);
-        }
-
 -- one number further up
 pub beyond : (m : ℕ) {k : ℕ} → m ≤ k → (k ≡ m → ⊥) → m + 1 ≤ k
 beyond m {k} l n = elim (decLe (m + 1) k) [
   | yes h ↦ h
   | no h ↦ absurd (n (omega arith))
 ]
-
--- a record of kind j has its bytes
-pub room : (job : List ℕ) (at j : ℕ) {k : ℕ} → Here (drop at job) → k ≡ word (drop at job) 2 → k ≡ j → at + sizeOf j ≤ length job
-room job at j h is e =
-    let same : word (drop at job) 2 ≡ j = sym is ∙ e in
-    omega (arith, length-drop at job, h .header, rw same at (h .size))
 
 -- ---- obeying each kind is what the definition says
 

@@ -15,8 +15,8 @@ use Rattle.session.specs.State.{fresh}
 use Rattle.raster.specs.Refusal.{firstOf}
 use Rattle.guarantee.specs.Board as calls
 use Rattle.guarantee.specs.World.{World, world, answer, after}
-use Rattle.job.specs.Format.{Order, opening, paint, erase, build, place, run, lift, expand, shrink, isJob, ordersOf}
-use Rattle.job.specs.Text.{line, textFrom}
+use Rattle.records.specs.Format.{Order, opening, paint, erase, build, place, run, lift, expand, shrink, isJob, ordersOf}
+use Rattle.records.specs.Text.{line, textFrom}
 
 -- what a job is run on: the world of its list of calls, the sheet and map buffers behind the parts that are lent, and the scratch buffer
 pub record Bench : Type 0 where

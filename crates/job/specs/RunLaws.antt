@@ -33,13 +33,12 @@ use Rattle.session.specs.Calls.{
 use Rattle.guarantee.specs.Board as calls
 use Rattle.guarantee.specs.Claims.{leftBy}
 use Rattle.guarantee.specs.World.{World, answer}
-use Rattle.job.specs.Format.{Order, sizeHere, orderHere, ordersIn, isJob, ordersOf}
-use Rattle.job.specs.FormatLaws.{size-fits, splits-turn, orders-turn, splits-not, orders-end}
-use Rattle.job.specs.Text.{line, textFrom, Put}
-use Rattle.job.specs.TextLaws.{nine-bytes}
+use Rattle.records.specs.Format.{Order, sizeHere, Here, orderHere, ordersIn, isJob, ordersOf}
+use Rattle.records.specs.FormatLaws.{here, size-fits, splits-turn, orders-turn, splits-not, orders-end}
+use Rattle.records.specs.Text.{line, textFrom, Put}
+use Rattle.records.specs.TextLaws.{nine-bytes}
 use Rattle.job.specs.Run.{Bench, benchOf, callOf, callsOf, benchAfter, answersOf, reportOf, stepped, roomFor, ranAnswer}
-use Rattle.job.specs.Obey.{Here, Obeyed, Left, Running}
-use Rattle.job.specs.ObeyLaws.{here}
+use Rattle.job.specs.Obey.{Obeyed, Left, Running}
 
 -- ---- no answer has more than two digits
 

@@ -6,8 +6,9 @@ use native.Mathlib.Nat.{le-antisymm}
 use native.Mathlib.Omega.{arith}
 use lib.ListN.{length, drop, length-drop}
 use borrow.Author.Needs.{needs}
-use Rattle.job.specs.Format.{word, sizeOf, orderHere}
-use Rattle.job.specs.ObeyLaws.{beyond, room, paint-obeyed, erase-obeyed, build-obeyed, expand-obeyed, shrink-obeyed}
+use Rattle.records.specs.Format.{word, sizeOf, orderHere}
+use Rattle.records.specs.FormatLaws.{room}
+use Rattle.job.specs.ObeyLaws.{beyond, paint-obeyed, erase-obeyed, build-obeyed, expand-obeyed, shrink-obeyed}
 use Rattle.job.proofs.act.Statement.{statement}
 use Rattle.job.proofs.act.Tie as tie
 

@@ -4,8 +4,9 @@ use mathlib.Core.Path.{sym, _∙_}
 use native.Mathlib.Omega.{arith}
 use lib.ListN.{length-drop}
 use borrow.Author.Needs.{needs}
-use Rattle.job.specs.Format.{sizeOf, orderHere}
-use Rattle.job.specs.ObeyLaws.{room, open-obeyed}
+use Rattle.records.specs.Format.{sizeOf, orderHere}
+use Rattle.records.specs.FormatLaws.{room}
+use Rattle.job.specs.ObeyLaws.{open-obeyed}
 use Rattle.job.proofs.obey.Statement.{statement}
 use Rattle.job.proofs.obey.Tie as tie
 

@@ -3,9 +3,9 @@
 use mathlib.Core.Path.{refl}
 use native.Mathlib.Omega.{arith}
 use borrow.Author.Needs.{needs}
-use Rattle.job.specs.FormatLaws.{split-done, split-refused}
-use Rattle.job.specs.Text.{digits, line}
-use Rattle.job.specs.TextLaws.{put-front}
+use Rattle.records.specs.FormatLaws.{split-done, split-refused}
+use Rattle.records.specs.Text.{digits, line}
+use Rattle.records.specs.TextLaws.{put-front}
 use Rattle.job.specs.Run.{textOf, printed, benchLeft}
 use Rattle.job.specs.RunLaws.{no-room-to-refuse, not-split, no-room-to-run, run-whole}
 use Rattle.job.proofs.run.Statement.{statement}

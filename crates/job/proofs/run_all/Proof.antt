@@ -5,7 +5,7 @@ use Prim.Native.Nat.{_+_, _-_, _≤_}
 use native.Mathlib.Omega.{arith}
 use lib.ListN.{length}
 use borrow.Author.Needs.{needs}
-use Rattle.job.specs.Text.{line}
+use Rattle.records.specs.Text.{line}
 use Rattle.job.specs.Run.{benchOf, startOf}
 use Rattle.job.specs.Obey.{Running}
 use Rattle.job.specs.RunLaws.{job-limit, running-start, running-size, running-line, running-here, running-room, running-turn, running-end, running-left, buffers}

@@ -2,10 +2,11 @@
 -- Assumes nothing.
 use mathlib.Core.Bool.{Bool, true, false, cond, _&&_, _||_}
 use mathlib.Core.List.{List, [], _∷_, _++_}
-use Prim.Native.Nat.{ℕ, zero, suc, _+_, _*_, _/_, _%_}
+use mathlib.Core.Path.{_≡_}
+use Prim.Native.Nat.{ℕ, zero, suc, _+_, _*_, _/_, _%_, _≤_}
 use lib.Dec.{eqb, leb}
 use lib.ListN.{length, getD, drop}
-use Rattle.job.specs.declared.Counted.{Counted}
+use Rattle.records.specs.declared.Counted.{Counted}
 
 -- a record, with its fields in their order
 pub data Order : Type 0 where
@@ -40,6 +41,13 @@ sizeHere bytes =
     cond (leb 4 (length bytes))
     (cond (eqb (word bytes 0) (sizeOf (word bytes 2)) && leb (word bytes 0) (length bytes)) (word bytes 0) 0)
     0
+
+-- a whole record of a known kind stands at the front of the bytes
+pub record Here (b : List ℕ) : Type 0 where
+  pub known : (1 ≤ word b 2) × (word b 2 ≤ 9)
+  pub header : 4 ≤ length b
+  pub said : word b 0 ≡ sizeOf (word b 2)
+  pub size : sizeOf (word b 2) ≤ length b
 
 -- the record at the front of the bytes, by its kind
 unfoldable pub orderHere : List ℕ → Order

@@ -10,7 +10,7 @@ use lib.Dec.{ltb}
 use lib.ListN.{length, take, drop, set, length-append, take-append-drop}
 use lib.Seq.{drop-drop, take-suc-set, drop-set-lt}
 use Rattle.raster.specs.Tests.{cond-ind}
-use Rattle.job.specs.Text.{digits, decimal, line, written, Put}
+use Rattle.records.specs.Text.{digits, decimal, line, written, Put}
 
 -- ---- writing
 

@@ -7,17 +7,17 @@ use Prim.Native.Nat.{ℕ, _+_, _-_, _/_, _%_, _<_}
 use native.Mathlib.Omega.{arith}
 use lib.ListN.{length, length-append}
 use borrow.Author.Needs.{needs}
-use Rattle.job.specs.Text.{digits}
-use Rattle.job.specs.TextLaws.{put-none, put-more, digits-one, digits-more}
+use Rattle.records.specs.Text.{digits}
+use Rattle.records.specs.TextLaws.{put-none, put-more, digits-one, digits-more}
 use borrow.Fn.Kinds.{In}
 use borrow.Fn.PlainCycle.{Measures, is, falls, and}
-use Rattle.job.proofs.put_number.Reads as put-number
-use Rattle.job.proofs.put_number.Kinds as put-number-kinds
-use Rattle.job.proofs.+put_number.Lts-put_number as put-number-lts
-use Rattle.job.proofs.digit.Reads as digit-reads
-use Rattle.job.proofs.put_byte.Reads as put-byte-reads
-use Rattle.job.proofs.+put_number.{statement}
-use Rattle.job.proofs.+put_number.Tie.{close}
+use Rattle.records.proofs.put_number.Reads as put-number
+use Rattle.records.proofs.put_number.Kinds as put-number-kinds
+use Rattle.records.proofs.+put_number.Lts-put_number as put-number-lts
+use Rattle.records.proofs.digit.Reads as digit-reads
+use Rattle.records.proofs.put_byte.Reads as put-byte-reads
+use Rattle.records.proofs.+put_number.{statement}
+use Rattle.records.proofs.+put_number.Tie.{close}
 
 abbrev μ-put-number : Measures 1 put-number-kinds.ps ℕ
 μ-put-number κs a = a .1 .1 .1 .0

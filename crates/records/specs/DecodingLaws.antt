@@ -13,9 +13,8 @@ use lib.Seq.{drop-cons, drop-drop, getD-drop, take-add}
 use borrow.Author.Tests.{eqb-true, ne-eqb}
 use Rattle.raster.specs.PixelsLaws.{nothing}
 use Rattle.raster.specs.Tests.{and-right}
-use Rattle.job.specs.Format.{word, sizeOf, sizeHere, orderHere, splits, ordersIn, isJob, ordersOf, wordBytes, encode, encodeAll}
-use Rattle.job.specs.FormatLaws.{size-is}
-use Rattle.job.specs.ObeyLaws.{here}
+use Rattle.records.specs.Format.{word, sizeOf, sizeHere, orderHere, splits, ordersIn, isJob, ordersOf, wordBytes, encode, encodeAll}
+use Rattle.records.specs.FormatLaws.{size-is, here}
 
 -- every element is a byte
 abbrev pub Bytes : List ℕ → Type 0

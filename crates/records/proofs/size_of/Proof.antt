@@ -1,9 +1,9 @@
--- `job::size_of` meets its contract: the tests are the definition's.
+-- `records::size_of` meets its contract: the tests are the definition's.
 -- Assumes nothing.
 use borrow.Author.Tests.{eq-eqb, ne-eqb}
-use Rattle.job.specs.Format.{sizeOf}
-use Rattle.job.proofs.size_of.Statement.{statement}
-use Rattle.job.proofs.size_of.Tie as tie
+use Rattle.records.specs.Format.{sizeOf}
+use Rattle.records.proofs.size_of.Statement.{statement}
+use Rattle.records.proofs.size_of.Tie as tie
 
 returns : tie.Need-returns
 unfolding sizeOf

@@ -1,11 +1,11 @@
--- `job::put_line` meets its contract: number, space, answer and line feed are written one after the other.
+-- `records::put_line` meets its contract: number, space, answer and line feed are written one after the other.
 -- Assumes nothing.
 use native.Mathlib.Omega.{arith}
 use borrow.Author.Needs.{needs}
-use Rattle.job.specs.Text.{line}
-use Rattle.job.specs.TextLaws.{put-more, line-length}
-use Rattle.job.proofs.put_line.Statement.{statement}
-use Rattle.job.proofs.put_line.Tie as tie
+use Rattle.records.specs.Text.{line}
+use Rattle.records.specs.TextLaws.{put-more, line-length}
+use Rattle.records.proofs.put_line.Statement.{statement}
+use Rattle.records.proofs.put_line.Tie as tie
 
 put-number-requires : tie.Need-put-number-requires
 put-number-requires c κs = let a = c .before .before .args in omega (arith, line-length (a .number) (a .answer))

@@ -1,4 +1,4 @@
--- `job::size_at` meets its contract: the tests are the definition's, on the part of the bytes that starts there.
+-- `records::size_at` meets its contract: the tests are the definition's, on the part of the bytes that starts there.
 -- Assumes nothing.
 use mathlib.Core.Path.{_≡_}
 use mathlib.Core.Bool.{cond, _&&_}
@@ -8,9 +8,9 @@ use lib.Dec.{eqb, leb}
 use lib.ListN.{length, drop, length-drop}
 use borrow.Author.Needs.{needs}
 use borrow.Author.Tests.{le-leb, lt-leb}
-use Rattle.job.specs.Format.{sizeHere}
-use Rattle.job.proofs.size_at.Statement.{statement}
-use Rattle.job.proofs.size_at.Tie as tie
+use Rattle.records.specs.Format.{sizeHere}
+use Rattle.records.proofs.size_at.Statement.{statement}
+use Rattle.records.proofs.size_at.Tie as tie
 
 returns : tie.Need-returns
 unfolding sizeHere

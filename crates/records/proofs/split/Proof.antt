@@ -1,4 +1,4 @@
--- `job::split` meets its contract. The invariant: the bytes split exactly if those from `at` on do, and have as many records more than those as were counted.
+-- `records::split` meets its contract. The invariant: the bytes split exactly if those from `at` on do, and have as many records more than those as were counted.
 -- Assumes nothing.
 use mathlib.Core.Path.{_≡_, refl, ap, _∙_}
 use Prim.Native.Nat.{_+_, _-_, _≤_}
@@ -6,10 +6,10 @@ use native.Mathlib.Omega.{arith}
 use lib.ListN.{length, drop, length-drop}
 use borrow.Author.Needs.{needs}
 use borrow.Author.Tests.{le-leb, lt-leb}
-use Rattle.job.specs.Format.{splits, ordersIn, isJob, ordersOf, splitOf}
-use Rattle.job.specs.FormatLaws.{size-fits, splits-turn, orders-turn, splits-not, splits-end, orders-end}
-use Rattle.job.proofs.split.Statement.{statement}
-use Rattle.job.proofs.split.Tie as tie
+use Rattle.records.specs.Format.{splits, ordersIn, isJob, ordersOf, splitOf}
+use Rattle.records.specs.FormatLaws.{size-fits, splits-turn, orders-turn, splits-not, splits-end, orders-end}
+use Rattle.records.proofs.split.Statement.{statement}
+use Rattle.records.proofs.split.Tie as tie
 
 abbrev Inv-loop : tie.InvT-loop
 Inv-loop job at₀ records₀ at records =

@@ -1,9 +1,9 @@
--- `job::word_at` meets its contract: the low byte comes first.
+-- `records::word_at` meets its contract: the low byte comes first.
 -- Assumes nothing.
 use borrow.Author.Needs.{needs}
-use Rattle.job.specs.FormatLaws.{word-drop}
-use Rattle.job.proofs.word_at.Statement.{statement}
-use Rattle.job.proofs.word_at.Tie as tie
+use Rattle.records.specs.FormatLaws.{word-drop}
+use Rattle.records.proofs.word_at.Statement.{statement}
+use Rattle.records.proofs.word_at.Tie as tie
 
 returns : tie.Need-returns
 returns c =

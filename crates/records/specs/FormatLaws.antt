@@ -1,18 +1,19 @@
 -- Laws of the job file's bytes.
 -- Assumes nothing.
 use mathlib.Core.Path.{_≡_, refl, sym, ap, ap₂, _∙_}
-use mathlib.Core.Bool.{true, false, _&&_}
+use mathlib.Core.Bool.{Bool, true, false, cond, _&&_, and-false}
 use mathlib.Core.List.{List, [], _∷_, _++_}
 use Prim.Native.Nat.{ℕ, zero, suc, _+_, _-_, _*_, _/_, _%_, _<_, _≤_}
+use native.Mathlib.Decide.{decLe}
 use native.Mathlib.Omega.{arith}
 use lib.Dec.{eqb, leb}
 use native.Mathlib.Nat.{div-add-mod'}
 use lib.ListN.{length, getD, drop, length-append, length-drop}
 use lib.Seq.{drop-drop, getD-drop, drop-append-seam}
-use borrow.Author.Tests.{eq-eqb, ne-eqb, leb-true, le-leb}
-use Rattle.raster.specs.Tests.{and-right, cond-ind}
-use Rattle.job.specs.declared.Counted.{Counted}
-use Rattle.job.specs.Format.{
+use borrow.Author.Tests.{eq-eqb, ne-eqb, eqb-true, leb-true, le-leb, lt-leb}
+use Rattle.raster.specs.Tests.{and-left, and-right, cond-ind}
+use Rattle.records.specs.declared.Counted.{Counted}
+use Rattle.records.specs.Format.{
   Order,
   opening,
   paint,
@@ -26,6 +27,7 @@ use Rattle.job.specs.Format.{
   word,
   sizeOf,
   sizeHere,
+  Here,
   orderHere,
   splits,
   ordersIn,
@@ -173,3 +175,40 @@ unfolding isJob ordersOf
 encoded os few =
     let b = read-back os (length (encodeAll os)) (each-a-byte os) in
     (rw (le-leb (length (encodeAll os)) 65536 few) (b .0), b .1)
+
+-- ---- a whole record of a known kind
+
+-- a kind above 9 has no length, and neither has 0
+no-size : (k : ℕ) → 9 < k → sizeOf k ≡ 0
+unfolding sizeOf
+no-size k h =
+    rw (ne-eqb k 2 (omega arith), ne-eqb k 3 (omega arith), ne-eqb k 5 (omega arith), ne-eqb k 4 (omega arith), ne-eqb k 7 (omega arith), lt-leb k 9 h, and-false)
+
+has-size : (k : ℕ) → (sizeOf k ≡ 0 → ⊥) → (1 ≤ k) × (k ≤ 9)
+unfolding sizeOf
+has-size zero some = absurd (some refl)
+has-size (suc k) some = elim (decLe (suc k) 9) [ yes h ↦ (omega arith, h) | no h ↦ absurd (some (no-size (suc k) (omega arith))) ]
+
+pub here : (b : List ℕ) {size : ℕ} → size ≡ sizeHere b → (size ≡ 0 → ⊥) → Here b
+unfolding sizeHere
+here b {size} is some = go (leb 4 (length b)) refl (eqb (word b 0) (sizeOf (word b 2)) && leb (word b 0) (length b)) refl is
+  where
+    go : (t : Bool) → leb 4 (length b) ≡ t → (u : Bool) → eqb (word b 0) (sizeOf (word b 2)) && leb (word b 0) (length b) ≡ u
+        → size ≡ cond t (cond u (word b 0) 0) 0 → Here b
+    go false p u q e = absurd (some e)
+    go true p false q e = absurd (some e)
+    go true p true q e =
+        let same = eqb-true (word b 0) (sizeOf (word b 2)) (and-left (eqb (word b 0) (sizeOf (word b 2))) _ q) in
+        let fits = leb-true (word b 0) (length b) (and-right (eqb (word b 0) (sizeOf (word b 2))) _ q) in
+        record {
+          known = has-size (word b 2) (λ z. some (e ∙ same ∙ z));
+          header = leb-true 4 (length b) p;
+          said = same;
+          size = omega (arith, same, fits);
+        }
+
+-- a record of kind j has its bytes
+pub room : (job : List ℕ) (at j : ℕ) {k : ℕ} → Here (drop at job) → k ≡ word (drop at job) 2 → k ≡ j → at + sizeOf j ≤ length job
+room job at j h is e =
+    let same : word (drop at job) 2 ≡ j = sym is ∙ e in
+    omega (arith, length-drop at job, h .header, rw same at (h .size))

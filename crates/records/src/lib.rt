@@ -1,0 +1,158 @@
+// The job file (document 01): splitting its bytes into records, reading a record's fields, and the text of its answers. Splitting asks nothing of its caller:
+// any bytes, any lengths.
+ghost use mathlib.Core.Path.{_≡_};
+ghost use mathlib.Core.List.{[], _∷_};
+ghost use Prim.Native.Nat.{_+_, _≤_, _<_};
+ghost use lib.ListN.{length, drop};
+ghost use Rattle.records.specs.Format.{word, long, sizeOf, sizeHere, splitOf};
+ghost use Rattle.records.specs.Text.{digits, line, Put};
+
+// The number of records and 0, or 0 and 19.
+#[repr(C)]
+pub struct Counted {
+    pub records: u32,
+    pub answer: u32,
+}
+
+// ---- reading a record
+
+// A byte as a 16-bit number, and a 16-bit number as one of 32.
+fn wide(byte: u8) -> u16
+    ensures { λ r. ⌜ (r ≡ byte) × (r ≤ 255) ⌝ }
+{
+    byte as u16
+}
+
+fn wider(word: u16) -> u32
+    ensures { λ r. ⌜ (r ≡ word) × (r ≤ 65535) ⌝ }
+{
+    word as u32
+}
+
+// The 16-bit number at place i of what starts at `at`.
+pub fn word_at(job: &[u8], at: usize, i: usize) -> u16
+    requires { ⌜ (at + i) + 1 < length (now job) ⌝ }
+    ensures { λ r. ⌜ r ≡ word (drop at (now (job .entry))) i ⌝ }
+{
+    let low = wide(job[at + i]);
+    let high = wide(job[at + i + 1]);
+    low + 256 * high
+}
+
+// The 32-bit number there.
+pub fn long_at(job: &[u8], at: usize, i: usize) -> u32
+    requires { ⌜ (at + i) + 3 < length (now job) ⌝ }
+    ensures { λ r. ⌜ r ≡ long (drop at (now (job .entry))) i ⌝ }
+{
+    let low = wider(word_at(job, at, i));
+    let high = wider(word_at(job, at, i + 2));
+    low + 65536 * high
+}
+
+// The whole length of a record of a kind, or 0.
+fn size_of(kind: u16) -> usize
+    ensures { λ r. ⌜ r ≡ sizeOf kind ⌝ }
+{
+    if (kind == 2) | ((kind == 3) | (kind == 5)) {
+        return 12;
+    }
+    if kind == 4 {
+        return 6;
+    }
+    if kind == 7 {
+        return 4;
+    }
+    if (1 <= kind) & (kind <= 9) {
+        return 8;
+    }
+    0
+}
+
+// The length of the record that starts at `at`, or 0.
+pub fn size_at(job: &[u8], at: usize) -> usize
+    requires { ⌜ at ≤ length (now job) ⌝ }
+    ensures { λ r. ⌜ r ≡ sizeHere (drop at (now (job .entry))) ⌝ }
+{
+    let left = job.len() - at;
+    if left < 4 {
+        return 0;
+    }
+    let size = word_at(job, at, 0) as usize;
+    if (size == size_of(word_at(job, at, 2))) & (size <= left) {
+        return size;
+    }
+    0
+}
+
+// ---- splitting
+
+// Splits the bytes of a job file.
+pub fn split(job: &[u8]) -> Counted
+    ensures { λ r. ⌜ r ≡ splitOf (now (job .entry)) ⌝ }
+{
+    if 65536 < job.len() {
+        return Counted {
+            records: 0,
+            answer: 19,
+        };
+    }
+    let mut at = 0;
+    let mut records = 0;
+    while at < job.len() {
+        let size = size_at(job, at);
+        if size == 0 {
+            return Counted {
+                records: 0,
+                answer: 19,
+            };
+        }
+        at += size;
+        records += 1;
+    }
+    Counted { records, answer: 0 }
+}
+
+// ---- writing the text
+
+// Writes one byte; returns the place behind it, as all of these do.
+fn put_byte(out: &mut [u8], at: usize, byte: u8) -> usize
+    requires { ⌜ at < length (now out) ⌝ }
+    ensures { λ r. ⌜ Put (now (out .entry)) at (byte ∷ []) r (now (out .exit)) ⌝ }
+{
+    out[at] = byte;
+    at + 1
+}
+
+// The digit of a number below ten.
+fn digit(n: u32) -> u8
+    requires { ⌜ n < 10 ⌝ }
+    ensures { λ r. ⌜ r ≡ 48 + n ⌝ }
+{
+    48 + (n as u8)
+}
+
+// Writes the last decimal digits of n, at most so many.
+fn put_number(out: &mut [u8], at: usize, n: u32, most: usize) -> usize
+    requires { ⌜ at + length (digits most n) ≤ length (now out) ⌝ }
+    ensures { λ r. ⌜ Put (now (out .entry)) at (digits most n) r (now (out .exit)) ⌝ }
+{
+    if most == 0 {
+        return at;
+    }
+    if n < 10 {
+        return put_byte(out, at, digit(n));
+    }
+    let end = put_number(out, at, n / 10, most - 1);
+    put_byte(out, end, digit(n % 10))
+}
+
+// Writes the line of a record.
+pub fn put_line(out: &mut [u8], at: usize, number: u32, answer: u32) -> usize
+    requires { ⌜ at + length (line number answer) ≤ length (now out) ⌝ }
+    ensures { λ r. ⌜ Put (now (out .entry)) at (line number answer) r (now (out .exit)) ⌝ }
+{
+    let numbered = put_number(out, at, number, 10);
+    let spaced = put_byte(out, numbered, 32);
+    let answered = put_number(out, spaced, answer, 10);
+    put_byte(out, answered, 10)
+}
