@@ -2,8 +2,8 @@
 -- 400; so the least over all whole h, k is the least among the places that `g` looks at.
 -- Assumes nothing.
 use mathlib.Core.Path.{_≡_, refl, sym, ap, ap₂, _∙_}
-use mathlib.Core.Bool.{Bool, true, false, cond, false≢true}
-use Prim.Native.Nat.{ℕ, zero, suc, _+_, _*_, _-_, _<_, _≤_, min}
+use mathlib.Core.Bool.{Bool, true, false, cond}
+use Prim.Native.Nat.{ℕ, zero, suc, _+_, _*_, _<_, _≤_, min}
 use native.Mathlib.Decide.{decLe}
 use native.Mathlib.Omega.{arith}
 use lib.Dec.{leb}
@@ -11,8 +11,6 @@ use lib.IntN.{ℤ, pos, negsuc, natAbs, _-ℤ_, +ℤ-idr}
 use borrow.Author.Tests.{leb-true, le-leb}
 use Rattle.raster.specs.Distance.{gap}
 use Rattle.raster.specs.DistanceLaws.{square-le, gap-swap}
-use Rattle.raster.specs.Loop.{some}
-use Rattle.raster.specs.LoopLaws.{some-true}
 use Rattle.raster.specs.Vector.{size}
 use Rattle.raster.specs.VectorLaws.{way-abs}
 use Rattle.skeleton.specs.Table.{least, beside, g, Rule}
@@ -143,27 +141,29 @@ g-rule corner n small =
 
 -- ---- g(n) is below n
 
--- every n from 1 to 400, computed
-abbrev fails : (corner : Bool) → ℕ → Bool
-fails corner i = leb (suc i) (g corner (suc i))
+-- the root of n, rounded up, less 1
+record Root (n : ℕ) : Type 0 where
+  r : ℕ
+  above : r * r < n
+  enough : n ≤ (r + 1) * (r + 1)
 
-below-g4 : some 400 (fails false) ≡ false
-unfolding some g least gap
-below-g4 = refl
-
-below-g8 : some 400 (fails true) ≡ false
-unfolding some g least gap
-below-g8 = refl
-
-pub g-below : (corner : Bool) (n : ℕ) → 1 ≤ n → n ≤ 400 → g corner n < n
-g-below corner n one small = elim (decLe n (g corner n)) [
-  | yes q ↦ absurd (false≢true (sym (tested corner) ∙ some-true 400 (fails corner) (n - 1) (omega arith) (at-n q)))
-  | no q ↦ omega arith
-]
+root : (n : ℕ) → Root (suc n)
+root zero = record { r = 0; above = omega arith; enough = omega arith }
+root (suc n) = go (root n)
   where
-    tested : (c : Bool) → some 400 (fails c) ≡ false
-    tested true = below-g8
-    tested false = below-g4
+    go : Root (suc n) → Root (suc (suc n))
+    go p = elim (decLe (suc (suc n)) ((p .r + 1) * (p .r + 1))) [
+      | yes q ↦ record { r = p .r; above = omega (arith, p .above); enough = q }
+      | no q ↦ record { r = p .r + 1; above = omega arith; enough = omega (arith, p .enough) }
+    ]
 
-    at-n : n ≤ g corner n → fails corner (n - 1) ≡ true
-    at-n q = let e : suc (n - 1) ≡ n = omega arith in rw e (le-leb n (g corner n) q)
+-- the place (r + 1, 0), or (r + 1, 1), is outside, and r steps from the neighbour
+pub g-below : (corner : Bool) (n : ℕ) → 1 ≤ n → n ≤ 400 → g corner n < n
+unfolding gap
+g-below corner zero one small = absurd (omega arith)
+g-below corner (suc n) one small =
+    let p = root n in omega (arith, p .above, g-least corner (suc n) small (p .r + 1) (cond corner 1 0) (omega (arith, p .enough)), steps corner (p .r) (omega arith))
+  where
+    steps : (c : Bool) (r : ℕ) → gap (r + 1) 1 ≤ r → beside c (r + 1) (cond c 1 0) ≤ r * r
+    steps true r l = omega (arith, square-le l)
+    steps false r l = omega (arith, square-le l)
