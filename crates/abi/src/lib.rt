@@ -7,7 +7,8 @@ ghost use Rattle.raster.specs.Map.{unmapped};
 ghost use Rattle.exact.specs.Nearest.{exactMap, cleared};
 ghost use Rattle.morphology.specs.Resize.{expanded, shrunk};
 ghost use Rattle.scan.specs.Scan.{state, scanned};
-ghost use Rattle.skeleton.specs.Skeleton.{skeletonOf, rebuilt};
+ghost use Rattle.rebuild.specs.Rebuild.{rebuilt};
+ghost use Rattle.skeleton.specs.Skeleton.{skeletonOf};
 ghost use Rattle.raster.specs.Sheet.{copperOf, bare};
 ghost use Rattle.session.specs.State.{fresh, openedAs, stale, downAt};
 ghost use Rattle.session.specs.Calls.{onDone, openAnswer, fillAnswer, filledBy, buildAnswer, buildSession, buildMap, buildScratch, placeAnswer, runAnswer, runSession, liftSession, resizeAnswer, skeletonAnswer, rebuildAnswer, rowOf};
@@ -89,7 +90,7 @@ pub extern "C" fn abi_rebuild(map: &[i16], marks: &[u8], out: &mut [u8], w: usiz
     requires { ⌜ (length (now map) ≡ 2 * (h * w)) × ((length (now marks) ≡ h * w) × (length (now out) ≡ h * w)) ⌝ }
     ensures { λ _. ⌜ now (out .exit) ≡ rebuilt (now (map .entry)) w h (now (marks .entry)) ⌝ }
 {
-    skeleton::rebuild(map, marks, out, w, h);
+    rebuild::rebuild(map, marks, out, w, h);
 }
 
 // ---- the calls of the session

@@ -199,7 +199,7 @@ fn show_skeleton(
 {
     exact::exact(sheet, map, scratch, w, h);
     skeleton::skeleton(map, marks, w, h);
-    skeleton::rebuild(map, marks, out, w, h);
+    rebuild::rebuild(map, marks, out, w, h);
     picture(sheet, w, h);
     picture(marks, w, h);
     picture(out, w, h);

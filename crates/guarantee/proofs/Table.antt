@@ -12,8 +12,9 @@ use Rattle.raster.specs.Vector.{size, replaces}
 use Rattle.scan.specs.Candidate.{offer, overs}
 use Rattle.scan.specs.Scan.{seeds, rightward, leftward, fromThree, fromRow, scanned}
 use Rattle.exact.specs.Nearest.{nearest, exactMap}
+use Rattle.rebuild.specs.Rebuild.{covered, rebuilt}
 use Rattle.skeleton.specs.Table.{least, g}
-use Rattle.skeleton.specs.Skeleton.{takenBy, removed, skeletonOf, covered, rebuilt}
+use Rattle.skeleton.specs.Skeleton.{takenBy, removed, skeletonOf}
 use Rattle.radius.specs.Radius.{measurable, radiusAnswer, radiusQ}
 use Rattle.cutter.specs.Gates.{passesAt}
 use Rattle.guarantee.specs.Table.{four, three, ends, Marked, m1, m2, m3, m4, m5, m6, m7, m8, m9, Says}

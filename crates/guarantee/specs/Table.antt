@@ -6,8 +6,9 @@ use mathlib.Core.Path.{_≡_}
 use Prim.Native.Nat.{ℕ}
 use lib.IntN.{ℤ, pos, negsuc}
 use Rattle.raster.specs.Map.{dxAt, dyAt, sizeAt}
+use Rattle.rebuild.specs.Rebuild.{rebuilt}
 use Rattle.skeleton.specs.Table.{g}
-use Rattle.skeleton.specs.Skeleton.{skeletonOf, rebuilt}
+use Rattle.skeleton.specs.Skeleton.{skeletonOf}
 use Rattle.radius.specs.Radius.{radiusQ}
 use Rattle.cutter.specs.Gates.{passesAt}
 use Rattle.session.specs.State.{openedAs}

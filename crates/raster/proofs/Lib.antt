@@ -2,3 +2,4 @@
 pub mod Signed
 pub mod Writing
 pub mod Product
+pub mod Rows

@@ -6,6 +6,7 @@ pub mod Sheet
 pub mod Vector
 pub mod Map
 pub mod Loop
+pub mod Rows
 pub mod Refusal
 pub mod Gate
 pub mod Tests

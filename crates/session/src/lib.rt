@@ -8,7 +8,8 @@ ghost use Rattle.raster.specs.Map.{unmapped};
 ghost use Rattle.raster.specs.Sheet.{bare};
 ghost use Rattle.exact.specs.Nearest.{cleared};
 ghost use Rattle.morphology.specs.Resize.{expanded, shrunk};
-ghost use Rattle.skeleton.specs.Skeleton.{skeletonOf, rebuilt};
+ghost use Rattle.rebuild.specs.Rebuild.{rebuilt};
+ghost use Rattle.skeleton.specs.Skeleton.{skeletonOf};
 ghost use Rattle.cutter.specs.Directions.{columnAfter, rowAfter};
 ghost use Rattle.session.specs.State.{fresh, side, cutterSound, mapSound, sheetSound, sound, active, openedAs, stale, builtBy, downAt, upOf};
 ghost use Rattle.session.specs.Calls.{
@@ -665,7 +666,7 @@ impl Session {
         let wrong = (marks.len() != n) | (out.len() != n);
         let answer = read_answer(self, map, wrong);
         if answer == 0 {
-            skeleton::rebuild(map, marks, out, self.width as usize, self.height as usize);
+            rebuild::rebuild(map, marks, out, self.width as usize, self.height as usize);
             return Reply {
                 answer,
                 session: self,

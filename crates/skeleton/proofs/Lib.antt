@@ -6,6 +6,3 @@ pub mod Tables
 pub mod Rows
 pub mod Bands
 pub mod Neighbours
-pub mod Raising
-pub mod Covering
-pub mod Passing

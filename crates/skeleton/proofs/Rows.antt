@@ -1,44 +1,20 @@
--- Rows of a sheet: how one starts, one byte more; and rows from the top, which make the sheet.
+-- Rows of a sheet: one told otherwise; and rows from the top, which make the sheet.
 -- Assumes nothing.
 use mathlib.Core.Path.{_≡_, refl, _∙_}
-use mathlib.Core.Logic.{_≢_}
 use mathlib.Core.List.{List}
 use Prim.Native.Nat.{ℕ, _+_, _*_, _<_, _≤_}
 use native.Mathlib.Decide.{decLt}
 use native.Mathlib.Nat.{mul-le-mul-right}
 use native.Mathlib.Omega.{arith}
-use lib.ListN.{length, getD, set, length-set}
-use lib.Seq.{getD-set-other}
-use Rattle.raster.proofs.Writing.{set-more}
+use lib.ListN.{length, getD}
 use Rattle.raster.specs.Pixels.{index, pixels}
 use Rattle.raster.specs.PixelsLaws.{pixels-is}
-use Rattle.skeleton.specs.Rows.{RowWritten}
-
-module _ {base : ℕ} {f : ℕ → ℕ} {before : List ℕ} where
-  pub row-none : RowWritten base 0 f before before
-  row-none = record { long = refl; here = λ x l. absurd (omega arith); under = λ p l. refl; over = λ p l. refl }
-
-  pub row-more : {n v : ℕ} {after : List ℕ} → RowWritten base n f before after → base + n < length before → v ≡ f n
-      → RowWritten base (n + 1) f before (set after (base + n) v)
-  row-more {n} {v} {after} r l e = record {
-    long = length-set after (base + n) v ∙ r .long;
-    here = set-more 0 (λ x u. u ≡ f x) (λ x. base + x) after (omega (arith, r .long)) (λ x m. omega arith) e (r .here);
-    under = λ p m. getD-set-other after (base + n) p v 0 (omega arith) ∙ r .under p m;
-    over = λ p m. getD-set-other after (base + n) p v 0 (omega arith) ∙ r .over p (omega arith);
-  }
+use Rattle.raster.specs.Rows.{RowWritten}
 
 -- the same bytes, told otherwise
 pub row-as : {base n : ℕ} {f k : ℕ → ℕ} {before after : List ℕ} → RowWritten base n f before after → ((x : ℕ) → x < n → f x ≡ k x)
     → RowWritten base n k before after
 row-as r e = record { long = r .long; here = λ x l. r .here x l ∙ e x l; under = r .under; over = r .over }
-
--- the other rows of a sheet of width w are left alone
-pub row-other : (w b : ℕ) {f : ℕ → ℕ} {before after : List ℕ} → RowWritten (b * w) w f before after → (x a : ℕ) → x < w → a ≢ b
-    → getD after (index w x a) 0 ≡ getD before (index w x a) 0
-row-other w b r x a l n = elim (decLt a b) [
-  | yes q ↦ r .under (index w x a) (omega (arith, mul-le-mul-right w q))
-  | no q ↦ let k : b < a = omega arith in r .over (index w x a) (omega (arith, mul-le-mul-right w k))
-]
 
 -- the first n rows of a sheet of width w are those of f
 pub record RowsWritten (w n : ℕ) (f : ℕ → ℕ → ℕ) (before after : List ℕ) : Type 0 where

@@ -22,7 +22,8 @@ use Rattle.raster.specs.Tests.{and-right}
 use Rattle.exact.specs.Nearest.{exactMap}
 use Rattle.exact.proofs.Theorems.{least, with-copper, ends-on-copper}
 use Rattle.raster.specs.VectorLaws.{ends-size}
-use Rattle.skeleton.specs.Skeleton.{removed, kept, skeletonOf, covered, rebuilt}
+use Rattle.rebuild.specs.Rebuild.{covered, rebuilt}
+use Rattle.skeleton.specs.Skeleton.{removed, kept, skeletonOf}
 use Rattle.skeleton.proofs.Disks.{InLarger, taken-inside}
 
 -- a pixel that is removed has a larger neighbour whose disk holds its own

@@ -1,6 +1,4 @@
--- `Table` and `Skeleton` are document 01's skeleton and rebuild; `Rows`, `Bands` and `Passes` are what the functions promise each other.
+-- `Table` and `Skeleton` are document 01's skeleton; `Bands` is what the functions promise each other.
 pub mod Table
 pub mod Skeleton
-pub mod Rows
 pub mod Bands
-pub mod Passes

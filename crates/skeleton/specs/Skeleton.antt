@@ -1,15 +1,13 @@
--- The skeleton of a map, and the sheet rebuilt from marks on it: document 01, "Skeleton", on a map with any contents.
+-- The skeleton of a map: document 01, "Skeleton", on a map with any contents.
 -- Assumes nothing.
 use mathlib.Core.Bool.{Bool, not, cond, _&&_}
 use mathlib.Core.List.{List}
 use Prim.Native.Nat.{ℕ, _+_, _-_}
-use lib.Dec.{eqb, leb, ltb}
+use lib.Dec.{eqb, leb}
 use lib.IntN.{ℤ}
-use Rattle.raster.specs.Distance.{apart}
 use Rattle.raster.specs.Loop.{some}
 use Rattle.raster.specs.Map.{sizeAt, unlabelledAt}
 use Rattle.raster.specs.Pixels.{Mask, index, pixels}
-use Rattle.raster.specs.Sheet.{copperOf}
 use Rattle.skeleton.specs.Table.{g}
 
 -- a neighbour of size n, from 1 to 400, takes off a pixel of size s that its table gives
@@ -38,16 +36,3 @@ module _ (m : List ℤ) (w h : ℕ) where
   -- what skeleton writes
   unfoldable pub skeletonOf : List ℕ
   skeletonOf = pixels w h (λ x y. cond (kept x y) 1 0)
-
-  -- the marked pixel (i, j) covers (x, y): their squared distance is below its size; an unlabelled one covers nothing
-  abbrev pub covers : (marks : List ℕ) (x y i j : ℕ) → Bool
-  covers marks x y i j =
-      (copperOf marks w i j && not (unlabelledAt m (index w i j))) && ltb (apart x y i j) (sizeAt m (index w i j))
-
-  -- some marked pixel does
-  unfoldable pub covered : (marks : List ℕ) → Mask
-  covered marks x y = some w (λ i. some h (λ j. covers marks x y i j))
-
-  -- what rebuild writes
-  unfoldable pub rebuilt : (marks : List ℕ) → List ℕ
-  rebuilt marks = pixels w h (λ x y. cond (covered marks x y) 1 0)

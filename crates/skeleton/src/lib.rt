@@ -1,17 +1,17 @@
-// The skeleton of a map, and the sheet rebuilt from marks on it (document 01, "Skeleton").
+// The skeleton of a map (document 01, "Skeleton").
+//
+// A band holds a row of the map in three parts: from 0 on its pixels' sizes, from 2,050 on the sizes that they take off at their sides, from 4,100 on those
+// at their corners. Column x stands at x + 1 of each part. 0 stands for a place off the sheet and for a pixel that takes nothing off, since no pixel of
+// size 0 is kept anyway. So each pixel is looked up in the tables once, and compared with its neighbours' entries with no test of the sheet's edges. The
+// tables are lent from above, since a constant that is indexed is laid out anew at each look.
 ghost use mathlib.Core.Path.{_≡_};
 ghost use mathlib.Core.Bool.{true, false, cond, _||_};
-ghost use Prim.Native.Nat.{ℕ, _+_, _-_, _*_, _≤_, _<_};
-ghost use lib.Dec.{eqb, ltb};
+ghost use Prim.Native.Nat.{_+_, _-_, _*_, _≤_, _<_};
+ghost use lib.Dec.{eqb};
 ghost use lib.ListN.{length, getD};
-ghost use Rattle.raster.specs.Distance.{gap};
-ghost use Rattle.raster.specs.Map.{Inside, sizeAt};
-ghost use Rattle.envelope.specs.Best.{noCost, priceOf};
-ghost use Rattle.envelope.specs.Stack.{Entries, holder};
-ghost use Rattle.skeleton.specs.Skeleton.{kept, skeletonOf, rebuilt};
-ghost use Rattle.skeleton.specs.Rows.{RowWritten};
+ghost use Rattle.raster.specs.Rows.{RowWritten};
+ghost use Rattle.skeleton.specs.Skeleton.{kept, skeletonOf};
 ghost use Rattle.skeleton.specs.Bands.{Listed, counted, Framed, Blank, Measured, Band, keptIn};
-ghost use Rattle.skeleton.specs.Passes.{rowOf, line, costOf, Priced, Costs, hits, hitBy, Raised, RowRaised, Passed};
 
 // g4(n) at place n − 1: the least squared distance from a side neighbour of a place outside the disk of size n.
 const G4: [u16; 400] = [
@@ -821,13 +821,6 @@ const G8: [u16; 400] = [
     346,
 ];
 
-// ---- the skeleton
-//
-// A band holds a row of the map in three parts: from 0 on its pixels' sizes, from 2,050 on the sizes that they take off at their sides, from 4,100 on those
-// at their corners. Column x stands at x + 1 of each part. 0 stands for a place off the sheet and for a pixel that takes nothing off, since no pixel of
-// size 0 is kept anyway. So each pixel is looked up in the tables once, and compared with its neighbours' entries with no test of the sheet's edges. The
-// tables are lent from above, since a constant that is indexed is laid out anew at each look.
-
 // Where the tables have what a pixel of size n takes off; for one that takes nothing off, the first place, which has 0.
 fn place_of(n: u32) -> usize
     ensures { λ r. ⌜ (r < 400) × (r + 1 ≡ counted n) ⌝ }
@@ -1003,238 +996,4 @@ pub fn skeleton(map: &[i16], out: &mut [u8], w: usize, h: usize)
     let mut b = [0u32; 6150];
     let mut c = [0u32; 6150];
     keep_rows(map, out, w, h, &G4, &G8, &mut a, &mut b, &mut c);
-}
-
-// ---- the sheet rebuilt from marks
-//
-// One pass over the rows from the top and one from the bottom. A pass keeps for each column the row up to which the rows so far cover it. The best site
-// of a row's envelope, in which a marked pixel costs 2^31 less its size, covers a pixel exactly if its price there and the square of the rows between
-// stay below 2^31; and a column's number only grows, so that a pass takes time linear in the pixels.
-
-// What pixel p costs: an unmarked or unlabelled one is no site.
-fn cost_of(map: &[i16], marks: &[u8], p: usize) -> u32
-    requires { ⌜ Inside p (now map) × (p < length (now marks)) ⌝ }
-    ensures { λ r. ⌜ (r ≡ costOf (now (map .entry)) (now (marks .entry)) p) × (r < noCost → sizeAt (now (map .entry)) p ≤ 2147483648) ⌝ }
-{
-    if marks[p] == 0 {
-        return 4294967295;
-    }
-    if raster::unlabelled_at(map, p) {
-        return 4294967295;
-    }
-    2147483648 - raster::size_at(map, p)
-}
-
-// The costs of the row that starts at `base`.
-fn price_row(map: &[i16], marks: &[u8], base: usize, w: usize, cost: &mut [u32])
-    requires { ⌜ (2 * (base + w) ≤ length (now map)) × ((base + w ≤ length (now marks)) × (w ≤ length (now cost))) ⌝ }
-    ensures { λ _. ⌜ Priced (now (map .entry)) (now (marks .entry)) base w (now (cost .exit)) ⌝ }
-{
-    for k in 0..w {
-        cost[k] = cost_of(map, marks, base + k);
-    }
-}
-
-// How far two columns lie apart.
-fn gap_of(a: usize, b: usize) -> usize
-    ensures { λ r. ⌜ r ≡ gap a b ⌝ }
-{
-    if a < b {
-        return b - a;
-    }
-    a - b
-}
-
-// What a site at s of cost g costs at x.
-fn price_at(x: usize, s: usize, g: usize) -> usize
-    requires { ⌜ (x < 2048) × ((s < 2048) × (g ≤ 2147483648)) ⌝ }
-    ensures { λ r. ⌜ (r ≡ priceOf x s g) × (r ≤ 4294967296) ⌝ }
-{
-    let d = gap_of(x, s);
-    d * d + g
-}
-
-// The later of two rows.
-fn later(a: usize, b: usize) -> usize
-    ensures { λ r. ⌜ r ≡ b + (a - b) ⌝ }
-{
-    if a < b {
-        return b;
-    }
-    a
-}
-
-// The row before which a column is covered, raised from r0 by a site of row t that costs `price` there.
-fn raise(r0: u16, t: usize, h: usize, price: usize) -> u16
-    requires { ⌜ (h ≤ 2048) × ((t < h) × (price ≤ 4294967296)) ⌝ }
-    ensures { λ r. ⌜ Raised t h (λ k. ltb ((k - t) * (k - t) + price) 2147483648) r0 r ⌝ }
-{
-    let mut r = later(r0 as usize, t);
-    while r < h {
-        if 2147483648 <= (r - t) * (r - t) + price {
-            return r as u16;
-        }
-        r += 1;
-    }
-    r as u16
-}
-
-// The columns from `from` to `to` − 1, raised by the site s of cost g.
-fn raise_run(reach: &mut [u16], from: usize, to: usize, t: usize, h: usize, s: usize, g: usize)
-    requires { ⌜ (to ≤ length (now reach)) × ((to ≤ 2048) × ((h ≤ 2048) × (t < h))) ⌝ }
-    requires { ⌜ (s < 2048) × (g ≤ 2147483648) ⌝ }
-    ensures { λ _. ⌜ RowRaised t h from to (λ x k. hits t x s g k) (now (reach .entry)) (now (reach .exit)) ⌝ }
-{
-    let mut x = from;
-    while x < to {
-        reach[x] = raise(reach[x], t, h, price_at(x, s, g));
-        x += 1;
-    }
-}
-
-// Each column raised by the site that holds it on the stack: runs, from the last entry to the first.
-fn raise_row(
-    reach: &mut [u16],
-    n: usize,
-    t: usize,
-    h: usize,
-    cost: &[u32],
-    site: &[u16],
-    start: &[u16],
-    count: usize,
-)
-    requires { ⌜ (n ≤ length (now reach)) × ((n ≤ 2048) × ((h ≤ 2048) × (t < h))) ⌝ }
-    requires { ⌜ (n ≤ length (now cost)) × ((count ≤ length (now site)) × (count ≤ length (now start))) ⌝ }
-    requires { ⌜ Entries (now cost) n (now site) count ⌝ }
-    requires { ⌜ Costs (now cost) n ⌝ }
-    ensures { λ _. ⌜ RowRaised t h 0 n (λ x. hitBy (now (cost .entry)) t x (holder (now (site .entry)) (now (start .entry)) count x)) (now (reach .entry)) (now (reach .exit)) ⌝ }
-{
-    let mut c = count;
-    let mut to = n;
-    while 0 < c {
-        c -= 1;
-        let from = envelope::place(start, c);
-        if from < to {
-            let s = envelope::place(site, c);
-            raise_run(reach, from, to, t, h, s, envelope::cost_at(cost, s));
-            to = from;
-        }
-    }
-}
-
-// 1 where a pixel is covered, what it has elsewhere.
-fn over(hit: bool, v: u8) -> u8
-    ensures { λ r. ⌜ r ≡ cond hit 1 v ⌝ }
-{
-    if hit {
-        return 1;
-    }
-    v
-}
-
-// 1 at the covered pixels of the t-th row, which starts at `base`.
-fn mark_row(out: &mut [u8], base: usize, n: usize, t: usize, reach: &[u16])
-    requires { ⌜ (base + n ≤ length (now out)) × (n ≤ length (now reach)) ⌝ }
-    ensures { λ _. ⌜ RowWritten base n (λ x. cond (ltb t (getD (now (reach .entry)) x 0)) 1 (getD (now (out .entry)) (base + x) 0)) (now (out .entry)) (now (out .exit)) ⌝ }
-{
-    for x in 0..n {
-        out[base + x] = over(t < envelope::place(reach, x), out[base + x]);
-    }
-}
-
-// The t-th row of a pass.
-fn row_of(t: usize, h: usize, up: bool) -> usize
-    requires { ⌜ t < h ⌝ }
-    ensures { λ r. ⌜ (r ≡ rowOf up h t) × (r < h) ⌝ }
-{
-    if up {
-        return h - 1 - t;
-    }
-    t
-}
-
-// One row of a pass: its marked pixels raise the columns, then its covered pixels are written.
-fn pass_row(
-    map: &[i16],
-    marks: &[u8],
-    out: &mut [u8],
-    w: usize,
-    h: usize,
-    up: bool,
-    t: usize,
-    reach: &mut [u16],
-    cost: &mut [u32],
-    site: &mut [u16],
-    start: &mut [u16],
-)
-    requires { ⌜ (w ≤ 2048) × ((h ≤ 2048) × (t < h)) ⌝ }
-    requires { ⌜ (length (now map) ≡ 2 * (h * w)) × ((length (now marks) ≡ h * w) × (length (now out) ≡ h * w)) ⌝ }
-    requires { ⌜ (w ≤ length (now reach)) × ((w ≤ length (now cost)) × ((w ≤ length (now site)) × (w ≤ length (now start)))) ⌝ }
-    ensures { λ _. ⌜ RowRaised t h 0 w (λ x k. line (now (map .entry)) w h (now (marks .entry)) x (rowOf up h k) (rowOf up h t)) (now (reach .entry)) (now (reach .exit)) ⌝ }
-    ensures { λ _. ⌜ RowWritten (rowOf up h t * w) w (λ x. cond (ltb t (getD (now (reach .exit)) x 0)) 1 (getD (now (out .entry)) (rowOf up h t * w + x) 0)) (now (out .entry)) (now (out .exit)) ⌝ }
-{
-    let base = row_of(t, h, up) * w;
-    price_row(map, marks, base, w, cost);
-    let count = envelope::build(cost, w, site, start);
-    raise_row(reach, w, t, h, cost, site, start, count);
-    mark_row(out, base, w, t, reach);
-}
-
-// A pass over all rows, from columns that are not covered at all.
-fn pass_rows(
-    map: &[i16],
-    marks: &[u8],
-    out: &mut [u8],
-    w: usize,
-    h: usize,
-    up: bool,
-    reach: &mut [u16],
-    cost: &mut [u32],
-    site: &mut [u16],
-    start: &mut [u16],
-)
-    requires { ⌜ (w ≤ 2048) × (h ≤ 2048) ⌝ }
-    requires { ⌜ (length (now map) ≡ 2 * (h * w)) × ((length (now marks) ≡ h * w) × (length (now out) ≡ h * w)) ⌝ }
-    requires { ⌜ (w ≤ length (now reach)) × ((w ≤ length (now cost)) × ((w ≤ length (now site)) × (w ≤ length (now start)))) ⌝ }
-    requires { ⌜ ((x : ℕ) → x < w → getD (now reach) x 0 ≡ 0) ⌝ }
-    ensures { λ _. ⌜ Passed (now (map .entry)) w h (now (marks .entry)) up (now (out .entry)) (now (out .exit)) ⌝ }
-{
-    for t in 0..h {
-        pass_row(map, marks, out, w, h, up, t, reach, cost, site, start);
-    }
-}
-
-// The same, in working rows of its own.
-fn pass(map: &[i16], marks: &[u8], out: &mut [u8], w: usize, h: usize, up: bool)
-    requires { ⌜ (w ≤ 2048) × (h ≤ 2048) ⌝ }
-    requires { ⌜ (length (now map) ≡ 2 * (h * w)) × ((length (now marks) ≡ h * w) × (length (now out) ≡ h * w)) ⌝ }
-    ensures { λ _. ⌜ Passed (now (map .entry)) w h (now (marks .entry)) up (now (out .entry)) (now (out .exit)) ⌝ }
-{
-    let mut reach = [0u16; 2048];
-    let mut cost = [0u32; 2048];
-    let mut site = [0u16; 2048];
-    let mut start = [0u16; 2048];
-    pass_rows(
-        map,
-        marks,
-        out,
-        w,
-        h,
-        up,
-        &mut reach,
-        &mut cost,
-        &mut site,
-        &mut start,
-    );
-}
-
-// The sheet that the marks on the map of w × h pixels cover, a byte a pixel, in linear time.
-pub fn rebuild(map: &[i16], marks: &[u8], out: &mut [u8], w: usize, h: usize)
-    requires { ⌜ (w ≤ 2048) × (h ≤ 2048) ⌝ }
-    requires { ⌜ (length (now map) ≡ 2 * (h * w)) × ((length (now marks) ≡ h * w) × (length (now out) ≡ h * w)) ⌝ }
-    ensures { λ _. ⌜ now (out .exit) ≡ rebuilt (now (map .entry)) w h (now (marks .entry)) ⌝ }
-{
-    raster::fill(out, 0);
-    pass(map, marks, out, w, h, false);
-    pass(map, marks, out, w, h, true);
 }

@@ -3,9 +3,9 @@
 use mathlib.Core.Path.{_≡_}
 use Prim.Native.Nat.{_-_, _≤_}
 use native.Mathlib.Omega.{arith}
-use Rattle.skeleton.specs.Rows.{RowWritten}
+use Rattle.raster.specs.Rows.{RowWritten}
 use Rattle.skeleton.specs.Bands.{keptIn}
-use Rattle.skeleton.proofs.Rows.{row-none, row-more}
+use Rattle.raster.proofs.Rows.{row-none, row-more}
 use Rattle.skeleton.proofs.keep_row.Statement.{statement}
 use Rattle.skeleton.proofs.keep_row.Tie as tie
 
