@@ -3,6 +3,6 @@ pub mod Outside
 pub mod Disks
 pub mod Theorems
 pub mod Tables
-pub mod Rows
 pub mod Bands
 pub mod Neighbours
+pub mod Turning

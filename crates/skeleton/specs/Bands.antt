@@ -10,7 +10,7 @@ use lib.ListN.{length, getD}
 use Rattle.raster.specs.Map.{sizeAt, unlabelledAt}
 use Rattle.raster.specs.Pixels.{index}
 use Rattle.skeleton.specs.Table.{g}
-use Rattle.skeleton.specs.Skeleton.{within}
+use Rattle.skeleton.specs.Skeleton.{within, kept}
 
 -- a table of g4 or g8, n at the place n − 1
 pub record Listed (corner : Bool) (s : List ℕ) : Type 0 where
@@ -71,3 +71,10 @@ takenIn above row below x s =
 -- 1 where that pixel is kept, 0 elsewhere
 abbrev pub keptIn : (above row below : List ℕ) (x : ℕ) → ℕ
 keptIn above row below x = cond (eqb (getD row (1 + x) 0) 0 || takenIn above row below x (getD row (1 + x) 0)) 0 1
+
+-- the y-th turn: the rows before row y are written, and if there is one, `above` is the band of the row before it and `row` its own
+pub record Turning (m : List ℤ) (w h y : ℕ) (out above row below : List ℕ) : Type 0 where
+  pub long : length out ≡ h * w
+  pub rows : (i j : ℕ) → i < w → j < h → j < y → getD out (index w i j) 0 ≡ cond (kept m w h i j) 1 0
+  pub bands : y < h → Band m w h y above × Band m w h (y + 1) row
+  pub framed : Framed w above × (Framed w row × Framed w below)

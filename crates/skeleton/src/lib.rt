@@ -10,8 +10,8 @@ ghost use Prim.Native.Nat.{_+_, _-_, _*_, _≤_, _<_};
 ghost use lib.Dec.{eqb};
 ghost use lib.ListN.{length, getD};
 ghost use Rattle.raster.specs.Rows.{RowWritten};
-ghost use Rattle.skeleton.specs.Skeleton.{kept, skeletonOf};
-ghost use Rattle.skeleton.specs.Bands.{Listed, counted, Framed, Blank, Measured, Band, keptIn};
+ghost use Rattle.skeleton.specs.Skeleton.{skeletonOf};
+ghost use Rattle.skeleton.specs.Bands.{Listed, counted, Framed, Blank, Measured, Band, keptIn, Turning};
 
 // g4(n) at place n − 1: the least squared distance from a side neighbour of a place outside the disk of size n.
 const G4: [u16; 400] = [
@@ -929,7 +929,7 @@ fn keep_row(out: &mut [u8], base: usize, w: usize, above: &[u32], row: &[u32], b
     }
 }
 
-// Row y of the skeleton, by the bands of that row and of the one above; `below` becomes the band of the one below.
+// Row y of the skeleton, if there is one, by the bands of that row and of the one above; `below` becomes the band of the one below.
 fn turn(
     map: &[i16],
     out: &mut [u8],
@@ -942,12 +942,14 @@ fn turn(
     row: &[u32],
     below: &mut [u32],
 )
-    requires { ⌜ (w ≤ 2048) × ((length (now map) ≡ 2 * (h * w)) × ((length (now out) ≡ h * w) × (y < h))) ⌝ }
+    requires { ⌜ (w ≤ 2048) × (length (now map) ≡ 2 * (h * w)) ⌝ }
     requires { ⌜ Listed false (now g4) × Listed true (now g8) ⌝ }
-    requires { ⌜ Band (now map) w h y (now above) × (Band (now map) w h (y + 1) (now row) × Framed w (now below)) ⌝ }
-    ensures { λ _. ⌜ Band (now (map .entry)) w h (y + 1 + 1) (now (below .exit)) ⌝ }
-    ensures { λ _. ⌜ RowWritten (y * w) w (λ x. cond (kept (now (map .entry)) w h x y) 1 0) (now (out .entry)) (now (out .exit)) ⌝ }
+    requires { ⌜ Turning (now map) w h y (now out) (now above) (now row) (now below) ⌝ }
+    ensures { λ _. ⌜ Turning (now (map .entry)) w h (y + 1) (now (out .exit)) (now (row .entry)) (now (below .exit)) (now (above .entry)) ⌝ }
 {
+    if h <= y {
+        return;
+    }
     fill_band(map, w, h, y + 1, g4, g8, below);
     keep_row(out, y * w, w, above, row, below);
 }
@@ -974,13 +976,7 @@ fn keep_rows(
     let mut y = 0;
     while y < h {
         turn(map, out, w, h, y, g4, g8, a, b, c);
-        if h <= y + 1 {
-            return;
-        }
         turn(map, out, w, h, y + 1, g4, g8, b, c, a);
-        if h <= y + 2 {
-            return;
-        }
         turn(map, out, w, h, y + 2, g4, g8, c, a, b);
         y += 3;
     }
