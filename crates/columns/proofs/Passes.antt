@@ -64,21 +64,30 @@ pub record Pass (w h : ℕ) (r : ℕ → ℕ) (copper : Mask) (make : (x y : ℕ
   pub near-long : length near′ ≡ length near
   pub made : (x k : ℕ) → x < w → k < t → getD ways′ (index w x (r k)) (pos 0) ≡ make x (r k) (far (λ i. copper x (r i)) k)
   pub rest : (x k : ℕ) → x < w → t ≤ k → k < h → getD ways′ (index w x (r k)) (pos 0) ≡ getD ways (index w x (r k)) (pos 0)
+  pub behind : (i : ℕ) → h * w ≤ i → getD ways′ i (pos 0) ≡ getD ways i (pos 0)
   pub line : (x : ℕ) → x < w → getD near′ x (pos 0) ≡ previous (λ i. copper x (r i)) t
 
 module _ {w h : ℕ} {r : ℕ → ℕ} {copper : Mask} {make : (x y : ℕ) → ℤ → ℤ} {ways near : List ℤ} where
   pub pass-none : ((x : ℕ) → x < w → getD near x (pos 0) ≡ negsuc 0) → Pass w h r copper make ways near 0 ways near
-  pass-none n = record { on = omega arith; long = refl; near-long = refl; made = λ x k a l. absurd (omega arith); rest = λ x k a l m. refl; line = n }
+  pass-none n = record {
+    on = omega arith;
+    long = refl;
+    near-long = refl;
+    made = λ x k a l. absurd (omega arith);
+    rest = λ x k a l m. refl;
+    behind = λ i l. refl;
+    line = n;
+  }
 
   module _ {t : ℕ} {ways′ near′ : List ℤ} (s : Pass w h r copper make ways near t ways′ near′) where
     pub pass-room : h ≤ 2048 → (x : ℕ) → x < w → Room (getD near′ x (pos 0))
     pass-room few x a = rw (s .line x a) (omega (arith, s .on, previous-mag (λ i. copper x (r i)) t))
 
     -- one row more: it is not one of the others, and has what stood there at first
-    pub pass-more : {y u : ℕ} {metal : ℕ → Bool} {made : ℕ → ℤ → ℤ} {ways″ near″ : List ℤ} → t < h → r t ≡ y → u ≡ t + 1 → ((k : ℕ) → k < h → r k ≡ r t → k ≡ t)
+    pub pass-more : {y u : ℕ} {metal : ℕ → Bool} {made : ℕ → ℤ → ℤ} {ways″ near″ : List ℤ} → t < h → r t ≡ y → y < h → u ≡ t + 1 → ((k : ℕ) → k < h → r k ≡ r t → k ≡ t)
         → ((x : ℕ) → getD ways′ (index w x y) (pos 0) ≡ getD ways (index w x (r t)) (pos 0) → (metal x ≡ copper x (r t)) × ((v : ℤ) → made x v ≡ make x (r t) v))
         → Spread (y * w) w metal made ways′ near′ ways″ near″ → Pass w h r copper make ways near u ways″ near″
-    pass-more {y} {u} {metal} {made} {ways″} {near″} more here next once same p = rw next (record {
+    pass-more {y} {u} {metal} {made} {ways″} {near″} more here on next once same p = rw next (record {
       on = omega arith;
       long = p .long ∙ s .long;
       near-long = p .near-long ∙ s .near-long;
@@ -87,6 +96,7 @@ module _ {w h : ℕ} {r : ℕ → ℕ} {copper : Mask} {make : (x y : ℕ) → �
         | no m ↦ let e : k ≡ t = omega arith in rw (e, here) (p .here x a ∙ rw (← here) (same x (was x a) .1 _) ∙ ap (make x y) (far-here x a))
       ];
       rest = λ x k a l m. other x k a (λ e. omega (arith, once k m e)) ∙ s .rest x k a (omega arith) m;
+      behind = λ i l. p .over i (omega (arith, mul-le-mul-right w on)) ∙ s .behind i l;
       line = λ x a. rw add-one (far-here x a);
     })
       where
@@ -104,7 +114,7 @@ module _ {w h : ℕ} {r : ℕ → ℕ} {copper : Mask} {make : (x y : ℕ) → �
 
     -- all rows, if row r y is the y-th
     pub pass-all : t ≡ h → ((y : ℕ) → y < h → (r y < h) × (r (r y) ≡ y)) → Held w h (λ x y. make x y (far (λ i. copper x (r i)) (r y))) ways ways′
-    pass-all e back = record { long = s .long; at = λ x y a b. rw (back y b .1) at (s .made x (r y) a (omega (arith, back y b .0))) }
+    pass-all e back = record { long = s .long; at = λ x y a b. rw (back y b .1) at (s .made x (r y) a (omega (arith, back y b .0))); behind = s .behind }
 
 -- ---- both
 
@@ -113,6 +123,7 @@ pub both-passes : (copper : Mask) {w h : ℕ} {m n o : List ℤ} → Held w h (u
 both-passes copper {w} {h} {m} {n} {o} r s = record {
   long = s .long ∙ r .long;
   at = λ x y a b. s .at x y a b ∙ ap₂ shorter (r .at x y a b) (far-same _ _ (h - 1 - y) (λ j l. metal-is x (h - 1 - j) a (omega arith)));
+  behind = λ i l. s .behind i l ∙ r .behind i l;
 }
   where
     metal-is : (x y : ℕ) → x < w → y < h → metal n w x y ≡ copper x y

@@ -3,7 +3,7 @@
 use mathlib.Core.Path.{_≡_}
 use mathlib.Core.Bool.{Bool, true, false, cond}
 use mathlib.Core.List.{List}
-use Prim.Native.Nat.{ℕ, zero, suc, _+_, _-_, _<_}
+use Prim.Native.Nat.{ℕ, zero, suc, _+_, _-_, _*_, _<_, _≤_}
 use lib.Dec.{leb, eqb}
 use lib.IntN.{ℤ, pos, negsuc, negℤ}
 use lib.ListN.{length, getD}
@@ -44,7 +44,8 @@ abbrev pub isZero : ℤ → Bool
 isZero (pos n) = eqb n 0
 isZero (negsuc n) = false
 
--- every pixel has f
+-- every pixel has f, and what stands behind them is as it was
 pub record Held (w h : ℕ) (f : (x y : ℕ) → ℤ) (before after : List ℤ) : Type 0 where
   pub long : length after ≡ length before
   pub at : (x y : ℕ) → x < w → y < h → getD after (index w x y) (pos 0) ≡ f x y
+  pub behind : (i : ℕ) → h * w ≤ i → getD after i (pos 0) ≡ getD before i (pos 0)

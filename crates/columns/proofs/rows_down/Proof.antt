@@ -36,7 +36,7 @@ unfolding copperOf
 loop-again c =
     let r = c .before .before in
     let l = r .before .before .before .before in
-    pass-more (l .loop .inv) (omega arith) refl refl (λ k a e. e) (λ x e. (refl, λ v. refl)) (r .row-down .ensures)
+    pass-more (l .loop .inv) (omega arith) refl (omega arith) refl (λ k a e. e) (λ x e. (refl, λ v. refl)) (r .row-down .ensures)
 
 returns : tie.Need-returns Inv-loop μ-loop
 returns c = let l = c .before in pass-all (l .loop .inv) (omega (arith, l .loop .inv .on)) (λ y a. (a, refl))

@@ -39,7 +39,7 @@ loop-again : tie.Need-loop-again Inv-loop μ-loop
 loop-again c =
     let r = c .before .before in
     let l = r .before .before .before .before in
-    (pass-more (l .loop .inv .0) (omega arith) (omega arith) (omega arith) (λ k a e. omega arith) (λ x e. (ap isZero e, λ v. ap (λ (u : ℤ). shorter u v) e)) (r .row-up .ensures), omega arith)
+    (pass-more (l .loop .inv .0) (omega arith) (omega arith) (omega arith) (omega arith) (λ k a e. omega arith) (λ x e. (ap isZero e, λ v. ap (λ (u : ℤ). shorter u v) e)) (r .row-up .ensures), omega arith)
 
 returns : tie.Need-returns Inv-loop μ-loop
 returns c = pass-all (c .before .loop .inv .0) (omega arith) (λ y a. (omega arith, omega arith))
