@@ -9,7 +9,7 @@ use Rattle.raster.specs.Pixels.{tabulate, pixels}
 use Rattle.raster.specs.Refusal.{firstOf}
 use Rattle.raster.specs.Sheet.{copperOf}
 use Rattle.raster.specs.Vector.{size, replaces}
-use Rattle.scan.specs.Candidate.{offer, overs}
+use Rattle.candidate.specs.Candidate.{offer, overs}
 use Rattle.scan.specs.Scan.{seeds, rightward, leftward, fromThree, fromRow, scanned}
 use Rattle.exact.specs.Nearest.{nearest, exactMap}
 use Rattle.rebuild.specs.Rebuild.{covered, rebuilt}

@@ -1,4 +1,4 @@
--- `Theorems` is what callers cite of the scans; what stands above it leads up to it. Below it: what the proofs of several functions share.
+-- `Theorems` is what callers cite of the scans; what stands above it leads up to it. `Sowing` is what the proof of `sow` cites.
 pub mod Seeds
 pub mod Sound
 pub mod Within
@@ -8,6 +8,4 @@ pub mod Sweeps
 pub mod Rows
 pub mod Passes
 pub mod Theorems
-pub mod Offer
-pub mod Carried
 pub mod Sowing

@@ -18,7 +18,8 @@ use Rattle.raster.specs.Distance.{gap}
 use Rattle.raster.specs.DistanceLaws.{gap-zero}
 use Rattle.raster.specs.Vector.{Step}
 use Rattle.raster.specs.VectorLaws.{step-back}
-use Rattle.scan.specs.Scan.{State, rightward, leftward, fromRow, upRow}
+use Rattle.candidate.specs.Candidate.{State}
+use Rattle.scan.specs.Scan.{rightward, leftward, fromRow, upRow}
 use Rattle.scan.proofs.Within.{Within, relaxed}
 use Rattle.scan.proofs.Cost.{Way, here, straight, corner, side}
 use Rattle.scan.proofs.Progress.{Fine, Grows, onward, either, loop-grows}

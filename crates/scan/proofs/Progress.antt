@@ -11,7 +11,7 @@ use Rattle.raster.specs.Pixels.{Mask, index}
 use Rattle.raster.specs.Vector.{Step, size}
 use Rattle.raster.specs.Map.{dxAt, dyAt}
 use Rattle.raster.specs.Tests.{cond-ind}
-use Rattle.scan.specs.Scan.{State, take}
+use Rattle.candidate.specs.Candidate.{State, take}
 use Rattle.scan.proofs.Sound.{Sound, Hop, hop-inside, candidate-allowed, never-over, relax-sound}
 use Rattle.scan.proofs.Within.{Within, side-size, corner-size, kept, reached}
 

@@ -18,7 +18,8 @@ use Rattle.raster.specs.DistanceLaws.{gap-self, gap-left, gap-right}
 use Rattle.raster.specs.Vector.{Step}
 use Rattle.raster.specs.VectorLaws.{step-back, step-none}
 use Rattle.raster.specs.Tests.{and-right}
-use Rattle.scan.specs.Scan.{State, take, fromLeft, fromRight, fromThree, fromRow}
+use Rattle.candidate.specs.Candidate.{State, take}
+use Rattle.scan.specs.Scan.{fromLeft, fromRight, fromThree, fromRow}
 use Rattle.scan.proofs.Sound.{Hop}
 use Rattle.scan.proofs.Within.{Within, relaxed}
 use Rattle.scan.proofs.Cost.{Way, here, straight, corner, side}

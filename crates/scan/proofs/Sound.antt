@@ -12,22 +12,13 @@ use borrow.Author.Tests.{not-true}
 use Rattle.raster.specs.Limits.{maxSide}
 use Rattle.raster.specs.Pixels.{Mask, index}
 use Rattle.raster.specs.PixelsLaws.{index-inside, index-one}
-use Rattle.raster.specs.Vector.{unlabelled, replaces, Ends, Target}
+use Rattle.raster.specs.Vector.{unlabelled, Ends, Target}
 use Rattle.raster.specs.VectorLaws.{ends-step, target-range}
 use Rattle.raster.specs.Map.{Inside, dxAt, dyAt, unlabelledAt, put}
 use Rattle.raster.specs.MapLaws.{put-length, put-dx, put-dy, put-dx-other, put-dy-other}
-use Rattle.raster.specs.Tests.{and-left, and-right, cond-ind}
-use Rattle.scan.specs.Candidate.{allowed, gives, overs, offer, relax}
-
--- what holds of the map as it was, and with the candidate written where it replaces, holds after the offer
-pub offer-ind : (nx ny ox oy : ℤ) (at : ℕ) (m : List ℤ) (P : List ℤ → Type 0) → P m
-    → (gives nx ny ox oy ≡ true → replaces (dxAt m at) (dyAt m at) (nx +ℤ ox) (ny +ℤ oy) ≡ true → P (put at (nx +ℤ ox) (ny +ℤ oy) m))
-    → P (offer nx ny ox oy at m)
-unfolding offer
-offer-ind nx ny ox oy at m P same new =
-    cond-ind P (gives nx ny ox oy && replaces (dxAt m at) (dyAt m at) (nx +ℤ ox) (ny +ℤ oy))
-    (λ e. new (and-left (gives nx ny ox oy) _ e) (and-right (gives nx ny ox oy) _ e))
-    (λ e. same)
+use Rattle.raster.specs.Tests.{and-left}
+use Rattle.candidate.specs.Candidate.{allowed, overs, relax}
+use Rattle.candidate.proofs.Neighbours.{offer-ind}
 
 module _ (copper : Mask) (w h : ℕ) where
   -- the vector at every labelled pixel does

@@ -14,7 +14,8 @@ use Rattle.raster.specs.Pixels.{Mask, index}
 use Rattle.raster.specs.Distance.{gap}
 use Rattle.raster.specs.DistanceLaws.{gap-self, gap-left, gap-right}
 use Rattle.raster.specs.VectorLaws.{step-back, step-none}
-use Rattle.scan.specs.Scan.{State, take, rightward, leftward}
+use Rattle.candidate.specs.Candidate.{State, take}
+use Rattle.scan.specs.Scan.{rightward, leftward}
 use Rattle.scan.proofs.Sound.{Hop}
 use Rattle.scan.proofs.Within.{Within, relaxed}
 use Rattle.scan.proofs.Progress.{Fine, Grows, loop-grows, take-grows, take-side}

@@ -27,7 +27,8 @@ use Rattle.raster.specs.Map.{dxAt, dyAt, unlabelledAt}
 use Rattle.raster.specs.Gate.{passes, NearBy}
 use Rattle.raster.specs.GateLaws.{passed-above, failed-near}
 use Rattle.raster.specs.Loop.{ascend}
-use Rattle.scan.specs.Scan.{State, state, seed, seeds, downRow, scanned, gate}
+use Rattle.candidate.specs.Candidate.{State, state}
+use Rattle.scan.specs.Scan.{seed, seeds, downRow, scanned, gate}
 use Rattle.scan.proofs.Seeds.{seeds-length, seeds-at}
 use Rattle.scan.proofs.Within.{Within}
 use Rattle.scan.proofs.Cost.{cost, way, fraction}

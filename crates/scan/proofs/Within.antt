@@ -16,8 +16,8 @@ use Rattle.raster.specs.VectorLaws.{add-abs, range-labelled}
 use Rattle.raster.specs.Map.{Inside, dxAt, dyAt, put}
 use Rattle.raster.specs.MapLaws.{put-dx, put-dy, put-dx-other, put-dy-other}
 use Rattle.raster.specs.Tests.{and-left, and-right, or-left, or-right, cond-ind}
-use Rattle.scan.specs.Candidate.{allowed, gives, offer}
-use Rattle.scan.proofs.Sound.{offer-ind}
+use Rattle.candidate.specs.Candidate.{allowed, gives, offer}
+use Rattle.candidate.proofs.Neighbours.{offer-ind}
 
 -- the vector (dx, dy) is labelled, and its size is at most (K / 12)²
 pub record Good (dx dy : ℤ) (K : ℕ) : Type 0 where

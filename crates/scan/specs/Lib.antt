@@ -1,4 +1,2 @@
--- `Candidate` and `Scan` are document 01's; `Holding` is what the functions promise each other of the vectors that they carry.
-pub mod Candidate
+-- `Scan` is document 01's scans, over the candidates of `candidate`.
 pub mod Scan
-pub mod Holding

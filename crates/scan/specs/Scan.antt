@@ -1,7 +1,7 @@
 -- The scans 4SED and 8SED: document 01, "Engines". Scan two is scan one with the rows from the bottom and the row below; within a row both go alike.
 -- Assumes nothing.
 use Prim.Native.Nat.{ℕ, _+_, _-_}
-use mathlib.Core.Bool.{Bool, true, false, cond, _&&_, _||_}
+use mathlib.Core.Bool.{Bool, true, false, cond, _&&_}
 use mathlib.Core.List.{List, [], _∷_}
 use lib.Dec.{eqb, ltb}
 use lib.IntN.{ℤ, pos, negsuc}
@@ -9,16 +9,7 @@ use Rattle.raster.specs.Gate.{Gate}
 use Rattle.raster.specs.Loop.{ascend, descend}
 use Rattle.raster.specs.Pixels.{index}
 use Rattle.raster.specs.Vector.{mark}
-use Rattle.raster.specs.Map.{dxAt, dyAt}
-use Rattle.scan.specs.Candidate.{relax, overs}
-
--- the map, and whether a candidate with a component outside ±2,047 was met so far
-pub record State : Type 0 where
-  pub map : List ℤ
-  pub over : Bool
-
-abbrev pub state : List ℤ → Bool → State
-state m b = record { map = m; over = b }
+use Rattle.candidate.specs.Candidate.{State, state, take}
 
 -- copper starts at (0, 0), the rest unlabelled
 abbrev pub seed : ℕ → ℤ
@@ -27,13 +18,6 @@ seed byte = cond (eqb byte 0) mark (pos 0)
 unfoldable pub seeds : List ℕ → List ℤ
 seeds [] = []
 seeds (byte ∷ sheet) = seed byte ∷ seed byte ∷ seeds sheet
-
--- the pixel `at` takes from its neighbour `from`, which stands at (ox, oy) from it
-abbrev pub take : (at from : ℕ) (ox oy : ℤ) → State → State
-take at from ox oy s = record {
-  map = relax at from ox oy (s .map);
-  over = overs (dxAt (s .map) from) (dyAt (s .map) from) ox oy || s .over;
-}
 
 module _ (w : ℕ) where
   -- ---- one row

@@ -11,6 +11,7 @@ use Rattle.raster.specs.Limits.{maxQ, maxCount}
 use Rattle.raster.specs.Map.{unmapped, hasCopper}
 use Rattle.raster.specs.Refusal.{firstOf, lastOf}
 use Rattle.raster.specs.Sheet.{copperOf, filled}
+use Rattle.candidate.specs.Candidate as candidate
 use Rattle.scan.specs.Scan as scan
 use Rattle.exact.specs.Nearest as exact
 use Rattle.cutter.specs.declared.Cutter.{Cutter}
@@ -57,7 +58,7 @@ filledBy s x y cols rows v sheet = filled (s .width) (s .height) x y cols rows v
 -- ---- build: engine 1 exact, 2 8SED, 3 4SED
 
 -- what the scan of engine 2 or 3 leaves
-abbrev pub scanOf : Session → List ℕ → (engine : ℕ) → scan.State
+abbrev pub scanOf : Session → List ℕ → (engine : ℕ) → candidate.State
 scanOf s sheet e = scan.scanned (s .width) (eqb e 2) (s .height) sheet
 
 -- the engine's map of the sheet

@@ -11,7 +11,8 @@ use mir.ValLaws.{toZ-ofZ}
 use borrow.Author.Needs.{needs}
 use Rattle.raster.specs.Loop.{ascend}
 use Rattle.raster.specs.LoopLaws.{up-turn}
-use Rattle.scan.specs.Scan.{state, fromThree, fromRow}
+use Rattle.candidate.specs.Candidate.{state}
+use Rattle.scan.specs.Scan.{fromThree, fromRow}
 use Rattle.scan.proofs.from_straight.Statement.{statement}
 use Rattle.scan.proofs.from_straight.Tie as tie
 

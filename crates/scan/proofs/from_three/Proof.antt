@@ -18,10 +18,11 @@ use Rattle.raster.specs.Loop.{ascend}
 use Rattle.raster.specs.LoopLaws.{up-turn}
 use Rattle.raster.specs.Pixels.{index}
 use Rattle.raster.specs.PixelsLaws.{index-one}
-use Rattle.scan.specs.declared.Held.{Held}
-use Rattle.scan.specs.Scan.{State, state, take, fromRight, fromThree, fromRow}
-use Rattle.scan.specs.Holding.{Seen, told}
-use Rattle.scan.proofs.Offer.{holds-told, seen-told, seen-stays}
+use Rattle.candidate.specs.declared.Held.{Held}
+use Rattle.candidate.specs.Candidate.{State, state, take, told}
+use Rattle.candidate.specs.Holding.{Seen}
+use Rattle.candidate.proofs.Neighbours.{holds-told, seen-told, seen-stays}
+use Rattle.scan.specs.Scan.{fromRight, fromThree, fromRow}
 use Rattle.scan.proofs.from_three.Statement.{statement}
 use Rattle.scan.proofs.from_three.Tie as tie
 

@@ -10,9 +10,10 @@ use borrow.Author.Needs.{needs}
 use Rattle.raster.specs.Loop.{descend}
 use Rattle.raster.specs.LoopLaws.{down-turn}
 use Rattle.raster.specs.Pixels.{index}
-use Rattle.scan.specs.Scan.{State, state, take, leftward}
-use Rattle.scan.specs.Holding.{Holds}
-use Rattle.scan.proofs.Offer.{holds-told}
+use Rattle.candidate.specs.Candidate.{State, state, take}
+use Rattle.candidate.specs.Holding.{Holds}
+use Rattle.candidate.proofs.Neighbours.{holds-told}
+use Rattle.scan.specs.Scan.{leftward}
 use Rattle.scan.proofs.leftward.Statement.{statement}
 use Rattle.scan.proofs.leftward.Tie as tie
 

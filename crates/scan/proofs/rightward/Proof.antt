@@ -11,9 +11,10 @@ use borrow.Author.Needs.{needs}
 use Rattle.raster.specs.Loop.{ascend}
 use Rattle.raster.specs.LoopLaws.{up-turn}
 use Rattle.raster.specs.Pixels.{index}
-use Rattle.scan.specs.Scan.{State, state, take, rightward}
-use Rattle.scan.specs.Holding.{Holds}
-use Rattle.scan.proofs.Offer.{holds-told}
+use Rattle.candidate.specs.Candidate.{State, state, take}
+use Rattle.candidate.specs.Holding.{Holds}
+use Rattle.candidate.proofs.Neighbours.{holds-told}
+use Rattle.scan.specs.Scan.{rightward}
 use Rattle.scan.proofs.rightward.Statement.{statement}
 use Rattle.scan.proofs.rightward.Tie as tie
 

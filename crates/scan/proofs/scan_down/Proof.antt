@@ -8,7 +8,8 @@ use lib.ListN.{length}
 use borrow.Author.Needs.{needs}
 use Rattle.raster.specs.Loop.{ascend}
 use Rattle.raster.specs.LoopLaws.{up-turn}
-use Rattle.scan.specs.Scan.{state, downRow}
+use Rattle.candidate.specs.Candidate.{state}
+use Rattle.scan.specs.Scan.{downRow}
 use Rattle.scan.proofs.scan_down.Statement.{statement}
 use Rattle.scan.proofs.scan_down.Tie as tie
 

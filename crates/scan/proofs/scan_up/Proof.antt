@@ -8,7 +8,8 @@ use lib.ListN.{length}
 use borrow.Author.Needs.{needs}
 use Rattle.raster.specs.Loop.{descend}
 use Rattle.raster.specs.LoopLaws.{down-turn}
-use Rattle.scan.specs.Scan.{state, upRow}
+use Rattle.candidate.specs.Candidate.{state}
+use Rattle.scan.specs.Scan.{upRow}
 use Rattle.scan.proofs.scan_up.Statement.{statement}
 use Rattle.scan.proofs.scan_up.Tie as tie
 
