@@ -1,11 +1,12 @@
 -- What the functions' proofs cite: one law for each need that is more than arithmetic. A law's premises are the facts as the code
 -- has them at that place, so that `search (needs, law)` finds them and no proof writes a path.
 -- Assumes nothing.
-use Prim.Native.Nat.{ℕ, suc, _+_, _-_, _*_, _<_, _≤_}
+use Prim.Native.Nat.{ℕ, zero, suc, _+_, _-_, _*_, _<_, _≤_}
+use native.Mathlib.Decide.{decLe, decLt}
 use native.Mathlib.Omega.{arith}
 use native.Mathlib.Numerals.{add-one}
 use native.Mathlib.Nat.{mul-le-mul}
-use mathlib.Core.Path.{_≡_, sym, _∙_}
+use mathlib.Core.Path.{_≡_, refl, sym, _∙_}
 use mathlib.Core.Bool.{Bool, true, false}
 use mathlib.Core.Logic.{⊎-elim}
 use mathlib.Core.List.{List}
@@ -13,7 +14,7 @@ use lib.ListN.{getD, set, length}
 use lib.Seq.{getD-set-same, getD-set-other}
 use Rattle.envelope.specs.Best.{noCost, Site}
 use Rattle.envelope.specs.BestLaws.{order}
-use Rattle.envelope.specs.Hull.{heightOf, over, crossing, Hull, Half, Popped, Started}
+use Rattle.envelope.specs.Hull.{heightOf, over, crossing, Bare, Hull, Half, Popped, Started}
 use Rattle.envelope.proofs.HullLaws.{under-upward, half-all, half-over, half-lower, hull-none, hull-skip, hull-push}
 
 -- a height times a distance
@@ -115,6 +116,27 @@ module _ {G : List ℕ} {n k : ℕ} {site : List ℕ} {count top : ℕ} (p : Hul
 
   pub hulled-all : n ≤ k → Hull G n site count
   hulled-all l = let e : k ≡ n = omega arith in rw e at (p .1 .0)
+
+-- `is_bare` and `skipped`: one place more without a site, and some more
+pub bare-more : {G : List ℕ} (k i : ℕ) → Bare G k (k + i) → noCost ≤ getD G (k + i) 0 → Bare G k (k + (i + 1))
+bare-more k i b o = record {
+  none = λ j low high. elim (decLt j (k + i)) [
+    | yes l ↦ b .none j low l
+    | no l ↦ let e : j ≡ k + i = omega arith in rw e o
+  ];
+}
+
+pub bare-join : {G : List ℕ} {k x y : ℕ} → Bare G k x → Bare G x y → Bare G k y
+bare-join {x = x} b o = record { none = λ j low high. elim (decLt j x) [ yes l ↦ b .none j low l | no l ↦ o .none j (omega arith) high ] }
+
+-- places without a site leave the hull as it is
+pub hulled-bare : {G : List ℕ} {n k : ℕ} {site : List ℕ} {count top : ℕ} → Hulled G n k site count top → n ≤ 2048
+    → (r : ℕ) → k ≤ r → r ≤ n → Bare G k r → Hulled G n r site count top
+hulled-bare {k = k} p m zero low high b = let e : k ≡ 0 = omega arith in rw e at p
+hulled-bare {k = k} p m (suc r) low high b = elim (decLe k r) [
+  | yes l ↦ rw (add-one r) at (hulled-skip (hulled-bare p m r l (omega arith) (record { none = λ i c d. b .none i c (omega arith) })) m (omega arith) refl (b .none r l (omega arith)))
+  | no l ↦ let e : k ≡ suc r = omega arith in rw e at p
+]
 
 -- `start_of`: the sites s and k of two entries that follow each other
 module _ {G : List ℕ} {n : ℕ} {site : List ℕ} {count s k : ℕ} (j : ℕ) (h : Hull G n site count) (l : j + 1 < count) (qs : s ≡ getD site j 0) (qk : k ≡ getD site (j + 1) 0) where

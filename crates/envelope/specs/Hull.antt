@@ -8,7 +8,7 @@ use mathlib.Core.Bool.{Bool, false}
 use mathlib.Core.List.{List}
 use lib.ListN.{getD}
 use lib.Dec.{leb}
-use Rattle.envelope.specs.Best.{noSite, Site, bestSite}
+use Rattle.envelope.specs.Best.{noCost, noSite, Site, bestSite}
 
 -- the point of the place k stands at k, so high
 unfoldable pub heightOf : List ℕ → ℕ → ℕ
@@ -21,6 +21,10 @@ over G a b k = leb (heightOf G k * (b - a) + heightOf G a * (k - b)) (heightOf G
 -- the first place where the later site k costs less than s, whose point is no higher
 unfoldable pub crossing : List ℕ → (s k : ℕ) → ℕ
 crossing G s k = (heightOf G k - heightOf G s) / (2 * (k - s)) + 1
+
+-- no place from `from` to `to` − 1 is a site
+pub record Bare (G : List ℕ) (from to : ℕ) : Type 0 where
+  pub none : (k : ℕ) → from ≤ k → k < to → noCost ≤ getD G k 0
 
 -- b is one of the first c entries
 pub record Among (site : List ℕ) (c b : ℕ) : Type 0 where

@@ -5,13 +5,15 @@
 // cost, among equals the least site (`bestSite` of specs/Best.antt): the last entry whose start is at most x holds it.
 //
 // The sites that are best somewhere are corners of the lower convex hull of the points (k, k^2 + cost[k]). `hull` goes through
-// the sites from the left and stacks the corners so far; `starts` then divides once for each that is left.
+// the sites from the left and stacks the corners so far, passing over places without a site eight at a time; `starts` then
+// divides once for each that is left.
 ghost use mathlib.Core.Path.{_≡_};
+ghost use mathlib.Core.Bool.{true};
 ghost use Prim.Native.Nat.{_+_, _-_, _*_, _/_, _<_, _≤_};
 ghost use lib.ListN.{length, getD};
 ghost use Rattle.envelope.specs.Best.{Site, Line};
 ghost use Rattle.envelope.specs.Stack.{Built};
-ghost use Rattle.envelope.specs.Hull.{heightOf, over, crossing, Hull, Popped, Started};
+ghost use Rattle.envelope.specs.Hull.{heightOf, over, crossing, Bare, Hull, Popped, Started};
 
 // Two places multiplied.
 fn times(a: usize, b: usize) -> usize
@@ -103,6 +105,44 @@ fn push(cost: &[u32], n: usize, k: usize, site: &mut [u16], count: usize, top: u
     c + 1
 }
 
+// Whether places that had no site so far still have none with the cost g.
+fn still_bare(bare: bool, g: u32) -> bool
+    ensures { λ r. ⌜ (r ≡ true → (bare ≡ true) × (4294967295 ≤ g)) ⌝ }
+{
+    if g < 4294967295 {
+        return false;
+    }
+    bare
+}
+
+// Whether none of the eight places from k on is a site. No jump out of the loop, so that they are looked at all at once.
+fn is_bare(cost: &[u32], k: usize) -> bool
+    requires { ⌜ k + 8 ≤ length (now cost) ⌝ }
+    ensures { λ r. ⌜ (r ≡ true → Bare (now (cost .entry)) k (k + 8)) ⌝ }
+{
+    let mut bare = true;
+    for i in 0..8 {
+        bare = still_bare(bare, cost[k + i]);
+    }
+    bare
+}
+
+// The place behind as many times eight places from k on as have no site.
+fn skipped(cost: &[u32], n: usize, k: usize) -> usize
+    requires { ⌜ (k ≤ n) × ((n ≤ 2048) × (n ≤ length (now cost))) ⌝ }
+    ensures { λ r. ⌜ (k ≤ r) × ((r ≤ n) × Bare (now (cost .entry)) k r) ⌝ }
+{
+    let mut x = k;
+    while x + 8 <= n {
+        if is_bare(cost, x) {
+            x += 8;
+        } else {
+            return x;
+        }
+    }
+    x
+}
+
 // The hull of all sites; the number of corners.
 fn hull(cost: &[u32], n: usize, site: &mut [u16]) -> usize
     requires { ⌜ (n ≤ 2048) × ((n ≤ length (now cost)) × (n ≤ length (now site))) ⌝ }
@@ -115,8 +155,10 @@ fn hull(cost: &[u32], n: usize, site: &mut [u16]) -> usize
         if cost_at(cost, k) < 4294967295 {
             count = push(cost, n, k, site, count, top);
             top = k;
+            k += 1;
+        } else {
+            k = skipped(cost, n, k + 1);
         }
-        k += 1;
     }
     count
 }

@@ -3,10 +3,9 @@
 use Prim.Native.Nat.{_-_}
 use native.Mathlib.Omega.{arith}
 use mathlib.Core.Path.{_≡_}
-use mathlib.Core.Logic.{⊎-elim}
 use borrow.Author.Needs.{needs}
 use lib.ListN.{length}
-use Rattle.envelope.proofs.Turns.{Hulled, hulled-none, hulled-skip, hulled-push, hulled-all}
+use Rattle.envelope.proofs.Turns.{Hulled, hulled-none, hulled-skip, hulled-push, hulled-bare, hulled-all}
 use Rattle.envelope.proofs.hull.Statement.{statement}
 use Rattle.envelope.proofs.hull.Tie as tie
 
@@ -16,12 +15,6 @@ Inv-loop cost n site₀ count₀ top₀ k₀ site count top k = (length site ≡
 abbrev μ-loop : tie.MeasureT-loop
 μ-loop cost n site₀ count₀ top₀ k₀ site count top k = n - k
 
-loop-holds : tie.Need-loop-holds Inv-loop μ-loop
-loop-holds c = search (needs, hulled-none)
-
-cost-at-requires : tie.Need-cost-at-requires Inv-loop μ-loop
-cost-at-requires c κs = search needs
-
 push-requires : tie.Need-push-requires Inv-loop μ-loop
 push-requires c κs =
     let l = c .before .before .before .before .loop in
@@ -30,15 +23,17 @@ push-requires c κs =
 
 loop-again : tie.Need-loop-again Inv-loop μ-loop
 loop-again c =
-    let l = c .before .before .before .loop in
-    let s = c .before .before .before .before .before .before in
-    ⊎-elim
-    (λ w. rw (w .5, w .6, w .7) (omega (arith, w .2 .kept, l .inv .0), hulled-push (l .inv .1) (omega arith) (w .2 .ensures)))
-    (λ w. rw (w .1, w .2, w .3) (l .inv .0, hulled-skip (l .inv .1) (s .pre .0) (omega arith) (c .before .cost-at .ensures .0) (w .0 .left)))
-    (c .if1 .came)
+    let p = c .before .before .push in
+    let l = c .before .before .before .before .before .before .before .loop in
+    (omega (arith, p .kept, l .inv .0), hulled-push (l .inv .1) (omega arith) (p .ensures))
 
-returns : tie.Need-returns Inv-loop μ-loop
-returns c = search (needs, hulled-all)
+loop-again-2 : tie.Need-loop-again-2 Inv-loop μ-loop
+loop-again-2 c =
+    let e = c .before in
+    let l = e .before .before .before .loop in
+    let m = e .before .before .before .before .before .before .pre .0 in
+    let r = c .skipped .ensures in
+    (l .inv .0, hulled-bare (hulled-skip (l .inv .1) m (omega arith) (e .before .cost-at .ensures .0) (e .if1 .left)) m _ (r .0) (r .1 .0) (r .1 .1))
 
 pub hull-spec : {M : Type 1} → statement M
 hull-spec =
@@ -46,11 +41,15 @@ hull-spec =
     (tie.spec
     Inv-loop
     μ-loop
-    loop-holds
-    cost-at-requires
+    (λ c. search (needs, hulled-none))
+    (λ c κs. search needs)
     push-requires
     (λ c. omega arith)
     (λ c. omega arith)
     loop-again
+    (λ c. omega arith)
+    (λ c κs. omega (arith, c .before .before .before .before .before .before .pre))
+    (λ c. omega (arith, c .skipped .ensures .0))
+    loop-again-2
     (λ c. search needs)
-    returns)
+    (λ c. search (needs, hulled-all)))
