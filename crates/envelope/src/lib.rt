@@ -5,7 +5,7 @@
 // cost, among equals the least site (`bestSite` of specs/Best.antt): the last entry whose start is at most x holds it.
 //
 // The sites that are best somewhere are corners of the lower convex hull of the points (k, k^2 + cost[k]). `hull` goes through
-// the sites from the left and stacks the corners so far, passing over places without a site eight at a time; `starts` then
+// the sites from the left and stacks the corners so far, passing over places without a site 32 at a time; `starts` then
 // divides once for each that is left.
 ghost use mathlib.Core.Path.{_≡_};
 ghost use mathlib.Core.Bool.{true};
@@ -115,27 +115,30 @@ fn still_bare(bare: bool, g: u32) -> bool
     bare
 }
 
-// Whether none of the eight places from k on is a site. No jump out of the loop, so that they are looked at all at once.
+// Whether none of the 32 places from k on is a site. No jump out of the loop, so that they are looked at all at once.
 fn is_bare(cost: &[u32], k: usize) -> bool
-    requires { ⌜ k + 8 ≤ length (now cost) ⌝ }
-    ensures { λ r. ⌜ (r ≡ true → Bare (now (cost .entry)) k (k + 8)) ⌝ }
+    requires { ⌜ k + 32 ≤ length (now cost) ⌝ }
+    ensures { λ r. ⌜ (r ≡ true → Bare (now (cost .entry)) k (k + 32)) ⌝ }
 {
     let mut bare = true;
-    for i in 0..8 {
+    for i in 0..32 {
         bare = still_bare(bare, cost[k + i]);
     }
     bare
 }
 
-// The place behind as many times eight places from k on as have no site.
+// The place behind as many times 32 places from k on as have no site. Tried at every 32nd place only, so that single places without a site cost little.
 fn skipped(cost: &[u32], n: usize, k: usize) -> usize
     requires { ⌜ (k ≤ n) × ((n ≤ 2048) × (n ≤ length (now cost))) ⌝ }
     ensures { λ r. ⌜ (k ≤ r) × ((r ≤ n) × Bare (now (cost .entry)) k r) ⌝ }
 {
+    if k % 32 != 0 {
+        return k;
+    }
     let mut x = k;
-    while x + 8 <= n {
+    while x + 32 <= n {
         if is_bare(cost, x) {
-            x += 8;
+            x += 32;
         } else {
             return x;
         }

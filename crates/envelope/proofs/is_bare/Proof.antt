@@ -10,10 +10,10 @@ use Rattle.envelope.proofs.is_bare.Statement.{statement}
 use Rattle.envelope.proofs.is_bare.Tie as tie
 
 abbrev Inv-loop : tie.InvT-loop
-Inv-loop cost k bare₀ i₀ bare i = (i ≤ 8) × (bare ≡ true → Bare cost k (k + i))
+Inv-loop cost k bare₀ i₀ bare i = (i ≤ 32) × (bare ≡ true → Bare cost k (k + i))
 
 abbrev μ-loop : tie.MeasureT-loop
-μ-loop cost k bare₀ i₀ bare i = 8 - i
+μ-loop cost k bare₀ i₀ bare i = 32 - i
 
 loop-again : tie.Need-loop-again Inv-loop μ-loop
 loop-again c =
@@ -21,7 +21,7 @@ loop-again c =
     (omega arith, λ e. let s = c .still-bare .ensures e in bare-more _ (l .i) (l .inv .1 (s .0)) (s .1))
 
 returns : tie.Need-returns Inv-loop μ-loop
-returns c = let l = c .before .loop in let e : l .i ≡ 8 = omega arith in rw e at (l .inv .1)
+returns c = let l = c .before .loop in let e : l .i ≡ 32 = omega arith in rw e at (l .inv .1)
 
 pub is-bare-spec : {M : Type 1} → statement M
 is-bare-spec =

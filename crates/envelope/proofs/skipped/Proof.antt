@@ -3,7 +3,7 @@
 use Prim.Native.Nat.{_-_, _≤_}
 use native.Mathlib.Omega.{arith}
 use Rattle.envelope.specs.Hull.{Bare}
-use Rattle.envelope.proofs.Turns.{bare-join}
+use Rattle.envelope.proofs.Turns.{bare-none, bare-join}
 use Rattle.envelope.proofs.skipped.Statement.{statement}
 use Rattle.envelope.proofs.skipped.Tie as tie
 
@@ -17,7 +17,7 @@ loop-again : tie.Need-loop-again Inv-loop μ-loop
 loop-again c =
     let b = c .before in
     let i = b .before .before .loop .inv in
-    (omega arith, (omega arith, bare-join (i .1 .1) (b .is-bare .ensures (c .if1 .taken))))
+    (omega arith, (omega arith, bare-join (i .1 .1) (b .is-bare .ensures (c .if2 .taken))))
 
 pub skipped-spec : {M : Type 1} → statement M
 skipped-spec =
@@ -25,7 +25,8 @@ skipped-spec =
     (tie.spec
     Inv-loop
     μ-loop
-    (λ c. (omega arith, (omega arith, record { none = λ j low high. absurd (omega arith) })))
+    (λ c. (omega arith, (omega arith, bare-none)))
+    (λ c. (omega arith, (omega arith, bare-none)))
     (λ c. omega arith)
     (λ c κs. omega arith)
     (λ c. omega arith)
