@@ -1,4 +1,4 @@
--- Where a cutter may stand, and what a run of it meets: document 01, "Calls", place and run.
+-- Where a cutter may stand, and what a run of it meets: document 01, "Engines", the gates, and "Calls", place and run.
 -- Assumes nothing.
 use mathlib.Core.Path.{_≡_}
 use mathlib.Core.Bool.{Bool, not, cond, _||_}

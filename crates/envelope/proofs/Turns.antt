@@ -118,8 +118,8 @@ module _ {G : List ℕ} {n k : ℕ} {site : List ℕ} {count top : ℕ} (p : Hul
   hulled-all l = let e : k ≡ n = omega arith in rw e at (p .1 .0)
 
 -- `is_bare` and `skipped`: no place, one place more without a site, and some more
-pub bare-none : {G : List ℕ} {k : ℕ} → Bare G k k
-bare-none = record { none = λ j low high. absurd (omega arith) }
+pub bare-none : {G : List ℕ} {k x : ℕ} → x ≤ k → Bare G k x
+bare-none l = record { none = λ j low high. absurd (omega arith) }
 
 pub bare-more : {G : List ℕ} (k i : ℕ) → Bare G k (k + i) → noCost ≤ getD G (k + i) 0 → Bare G k (k + (i + 1))
 bare-more k i b o = record {

@@ -5,7 +5,7 @@ use mathlib.Core.Bool.{true}
 use Prim.Native.Nat.{_+_, _-_, _≤_}
 use native.Mathlib.Omega.{arith}
 use Rattle.envelope.specs.Hull.{Bare}
-use Rattle.envelope.proofs.Turns.{bare-more}
+use Rattle.envelope.proofs.Turns.{bare-none, bare-more}
 use Rattle.envelope.proofs.is_bare.Statement.{statement}
 use Rattle.envelope.proofs.is_bare.Tie as tie
 
@@ -29,7 +29,7 @@ is-bare-spec =
     (tie.spec
     Inv-loop
     μ-loop
-    (λ c. (omega arith, λ e. record { none = λ j low high. absurd (omega arith) }))
+    (λ c. (omega arith, λ e. bare-none (omega arith)))
     (λ c. omega arith)
     (λ c. omega arith)
     (λ c. omega arith)

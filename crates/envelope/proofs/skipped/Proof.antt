@@ -25,8 +25,8 @@ skipped-spec =
     (tie.spec
     Inv-loop
     μ-loop
-    (λ c. (omega arith, (omega arith, bare-none)))
-    (λ c. (omega arith, (omega arith, bare-none)))
+    (λ c. (omega arith, (omega arith, bare-none (omega arith))))
+    (λ c. (omega arith, (omega arith, bare-none (omega arith))))
     (λ c. omega arith)
     (λ c κs. omega arith)
     (λ c. omega arith)
