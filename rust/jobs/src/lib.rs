@@ -215,7 +215,8 @@ mod tests {
     use super::*;
 
     /// Document 01's job.
-    const DOCUMENT_01: &str = "open 4 4\npaint 3 0 1 1\npaint 0 3 1 1\npaint 2 2 1 1\nbuild 3\nplace 0 0 5\nplace 0 0 4\nrun east 1\nlift\n";
+    const DOCUMENT_01: &str =
+        "open 4 4\npaint 3 0 1 1\npaint 0 3 1 1\npaint 2 2 1 1\nbuild 3\nplace 0 0 5\nplace 0 0 4\nrun east 1\nlift\n";
 
     #[test]
     fn document_01() {
