@@ -11,9 +11,9 @@ use Rattle.raster.specs.Tests.{and-left, and-right, cond-ind}
 use Rattle.raster.specs.Vector.{replaces}
 use Rattle.raster.specs.Map.{dxAt, dyAt, put}
 use Rattle.raster.specs.MapLaws.{put-dx-other, put-dy-other}
-use Rattle.candidate.specs.declared.Held.{Held}
-use Rattle.candidate.specs.Candidate.{gives, overs, offer, State, told, take}
-use Rattle.candidate.specs.Holding.{Seen}
+use Rattle.candidate.specs.declared.SizedVector.{SizedVector}
+use Rattle.candidate.specs.Candidate.{gives, overs, offer, State, offerFlagged, relaxFlagged}
+use Rattle.candidate.specs.Holding.{IfThere}
 
 -- what holds of the map as it was, and with the candidate written where it replaces, holds after the offer
 pub offer-ind : (nx ny ox oy : ℤ) (at : ℕ) (m : List ℤ) (P : List ℤ → Type 0) → P m
@@ -26,23 +26,23 @@ offer-ind nx ny ox oy at m P same new =
     (λ e. same)
 
 -- the candidate of a vector that a pixel holds is that of the pixel
-pub holds-told : {nx ny : ℤ} (at p : ℕ) (ox oy : ℤ) (s : State) → nx ≡ dxAt (s .map) p → ny ≡ dyAt (s .map) p → told at nx ny ox oy s ≡ take at p ox oy s
-holds-told at p ox oy s e f = rw (e, f)
+pub at-pixel-offer : {nx ny : ℤ} (at p : ℕ) (ox oy : ℤ) (s : State) → nx ≡ dxAt (s .map) p → ny ≡ dyAt (s .map) p → offerFlagged at nx ny ox oy s ≡ relaxFlagged at p ox oy s
+at-pixel-offer at p ox oy s e f = rw (e, f)
 
-module _ {t : Bool} {o : ℤ} {c : Held} {p : ℕ} (at : ℕ) (s : State) (e : Seen t o c (s .map) p) where
+module _ {t : Bool} {o : ℤ} {c : SizedVector} {p : ℕ} (at : ℕ) (s : State) (e : IfThere t o c (s .map) p) where
   -- a neighbour that is not there gives nothing
-  pub seen-told : (ox : ℤ) → told at (c .dx) (c .dy -ℤ o) ox o s ≡ cond t (take at p ox o s) s
+  pub if-there-offer : (ox : ℤ) → offerFlagged at (c .dx) (c .dy -ℤ o) ox o s ≡ cond t (relaxFlagged at p ox o s) s
   unfolding offer overs
-  seen-told ox = go t refl
+  if-there-offer ox = go t refl
     where
-      go : (u : Bool) → t ≡ u → told at (c .dx) (c .dy -ℤ o) ox o s ≡ cond u (take at p ox o s) s
-      go true f = let h = e .there f in holds-told at p ox o s (h .dx) (h .dy)
+      go : (u : Bool) → t ≡ u → offerFlagged at (c .dx) (c .dy -ℤ o) ox o s ≡ cond u (relaxFlagged at p ox o s) s
+      go true f = let h = e .there f in at-pixel-offer at p ox o s (h .dx) (h .dy)
       go false f = rw (e .none f)
 
   -- a candidate at another pixel leaves it alone
-  pub seen-stays : (nx ny ox oy : ℤ) → (t ≡ true → p ≢ at) → Seen t o c (told at nx ny ox oy s .map) p
-  seen-stays nx ny ox oy z =
-      offer-ind nx ny ox oy at (s .map) (λ m. Seen t o c m p) e
+  pub if-there-stays : (nx ny ox oy : ℤ) → (t ≡ true → p ≢ at) → IfThere t o c (offerFlagged at nx ny ox oy s .map) p
+  if-there-stays nx ny ox oy z =
+      offer-ind nx ny ox oy at (s .map) (λ m. IfThere t o c m p) e
       (λ _ _. record {
         there = λ f. let h = e .there f in record { dx = h .dx ∙ sym (put-dx-other at _ _ (s .map) p (z f)); dy = h .dy ∙ sym (put-dy-other at _ _ (s .map) p (z f)); stepped = h .stepped };
         none = e .none;

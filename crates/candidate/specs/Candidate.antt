@@ -41,12 +41,12 @@ abbrev pub state : List ℤ → Bool → State
 state m b = record { map = m; over = b }
 
 -- the pixel `at` is offered the candidate of a neighbour that holds (nx, ny) and stands at (ox, oy)
-abbrev pub told : (at : ℕ) (nx ny ox oy : ℤ) → State → State
-told at nx ny ox oy s = state (offer nx ny ox oy at (s .map)) (overs nx ny ox oy || s .over)
+abbrev pub offerFlagged : (at : ℕ) (nx ny ox oy : ℤ) → State → State
+offerFlagged at nx ny ox oy s = state (offer nx ny ox oy at (s .map)) (overs nx ny ox oy || s .over)
 
 -- the pixel `at` takes from its neighbour `from`, which stands at (ox, oy) from it
-abbrev pub take : (at from : ℕ) (ox oy : ℤ) → State → State
-take at from ox oy s = record {
+abbrev pub relaxFlagged : (at from : ℕ) (ox oy : ℤ) → State → State
+relaxFlagged at from ox oy s = record {
   map = relax at from ox oy (s .map);
   over = overs (dxAt (s .map) from) (dyAt (s .map) from) ox oy || s .over;
 }

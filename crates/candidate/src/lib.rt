@@ -7,15 +7,15 @@ ghost use Prim.Native.Nat.{_+_, _*_, _≤_};
 ghost use lib.Dec.{ltb};
 ghost use lib.IntN.{pos, negsuc, natAbs, _+ℤ_, _-ℤ_};
 ghost use lib.ListN.{length};
-ghost use Rattle.raster.specs.Vector.{Short, Step, size, unlabelled, inRange};
+ghost use Rattle.raster.specs.Vector.{Short, UnitStep, size, unlabelled, inRange};
 ghost use Rattle.raster.specs.Map.{Inside};
-ghost use Rattle.candidate.specs.Candidate.{state, told, take};
-ghost use Rattle.candidate.specs.Holding.{square, Sized, Holds, Stepped, Ahead, Seen, Offered};
+ghost use Rattle.candidate.specs.Candidate.{state, offerFlagged, relaxFlagged};
+ghost use Rattle.candidate.specs.Holding.{square, Sized, AtPixel, Stepped, Ahead, IfThere, Offered};
 
 // ---- one candidate
 
 // The vector of a pixel with its size, and the flag.
-pub struct Held {
+pub struct SizedVector {
     pub dx: i32,
     pub dy: i32,
     pub size: u32,
@@ -44,7 +44,7 @@ fn pick_size(first: bool, a: u32, b: u32) -> u32
 
 // What a step o adds to the square of the component v: 2vo + o², here with 4,096 more, so that it is not negative.
 fn growth(v: i32, o: i32) -> u32
-    requires { ⌜ (natAbs v ≤ 2048) × Step o ⌝ }
+    requires { ⌜ (natAbs v ≤ 2048) × UnitStep o ⌝ }
     ensures { λ r. ⌜ (r + square v ≡ 4096 + square (v +ℤ o)) × (r ≤ 8193) ⌝ }
 {
     if o < 0 {
@@ -57,16 +57,16 @@ fn growth(v: i32, o: i32) -> u32
 }
 
 // Whether a neighbour whose vector is c, stepped up or down already, has a candidate in the range at the step o to the side.
-fn is_allowed(c: Held, o: i32) -> bool
-    requires { ⌜ Short (c .dx) × Step o ⌝ }
+fn is_allowed(c: SizedVector, o: i32) -> bool
+    requires { ⌜ Short (c .dx) × UnitStep o ⌝ }
     ensures { λ r. ⌜ r ≡ inRange (c .dx +ℤ o) && inRange (c .dy) ⌝ }
 {
     raster::in_range(raster::shifted(c.dx, o)) & raster::in_range(c.dy)
 }
 
 // The size of that candidate, from the size of c.
-fn size_after(c: Held, o: i32) -> u32
-    requires { ⌜ (c .size ≡ size (c .dx) (c .dy)) × (Step o × (inRange (c .dx +ℤ o) && inRange (c .dy) ≡ true)) ⌝ }
+fn size_after(c: SizedVector, o: i32) -> u32
+    requires { ⌜ (c .size ≡ size (c .dx) (c .dy)) × (UnitStep o × (inRange (c .dx +ℤ o) && inRange (c .dy) ≡ true)) ⌝ }
     ensures { λ r. ⌜ r ≡ size (c .dx +ℤ o) (c .dy) ⌝ }
 {
     c.size + growth(c.dx, o) - 4096
@@ -74,12 +74,12 @@ fn size_after(c: Held, o: i32) -> u32
 
 // What a pixel that holds d holds after the candidate of a neighbour at (ox, oy) whose vector with the step (0, oy) is c. That of an unlabelled one is
 // never in the range, so the flag needs a look at the neighbour only where the candidate is not.
-fn better(d: Held, c: Held, ox: i32, oy: i32) -> Held
-    requires { ⌜ (Sized d × Stepped oy c) × (Step ox × Step oy) ⌝ }
+fn better(d: SizedVector, c: SizedVector, ox: i32, oy: i32) -> SizedVector
+    requires { ⌜ (Sized d × Stepped oy c) × (UnitStep ox × UnitStep oy) ⌝ }
     ensures { λ r. ⌜ Offered d (c .dx) (c .dy -ℤ oy) ox oy r ⌝ }
 {
     if !is_allowed(c, ox) {
-        return Held {
+        return SizedVector {
             dx: d.dx,
             dy: d.dy,
             size: d.size,
@@ -88,7 +88,7 @@ fn better(d: Held, c: Held, ox: i32, oy: i32) -> Held
     }
     let size = size_after(c, ox);
     let takes = size < d.size;
-    Held {
+    SizedVector {
         dx: pick(takes, raster::shifted(c.dx, ox), d.dx),
         dy: pick(takes, c.dy, d.dy),
         size: pick_size(takes, size, d.size),
@@ -97,13 +97,13 @@ fn better(d: Held, c: Held, ox: i32, oy: i32) -> Held
 }
 
 // What pixel p holds.
-pub fn read(map: &[i16], p: usize, over: bool) -> Held
+pub fn read(map: &[i16], p: usize, over: bool) -> SizedVector
     requires { ⌜ Inside p (now map) ⌝ }
-    ensures { λ r. ⌜ Holds r (now (map .entry)) p × (r .over ≡ over) ⌝ }
+    ensures { λ r. ⌜ AtPixel r (now (map .entry)) p × (r .over ≡ over) ⌝ }
 {
     let dx = raster::dx_at(map, p);
     let dy = raster::dy_at(map, p);
-    Held {
+    SizedVector {
         dx,
         dy,
         size: raster::size_of(dx, dy),
@@ -113,15 +113,15 @@ pub fn read(map: &[i16], p: usize, over: bool) -> Held
 
 // Pixel `at` is offered the candidate of a neighbour in its row that holds n and stands at (o, 0). Along a row most candidates go one way for long,
 // so that here a branch is faster than a choice of numbers.
-pub fn relax(map: &mut [i16], at: usize, n: Held, o: i32) -> Held
+pub fn relax(map: &mut [i16], at: usize, n: SizedVector, o: i32) -> SizedVector
     requires { ⌜ Inside at (now map) ⌝ }
-    requires { ⌜ Sized n × Step o ⌝ }
-    ensures { λ r. ⌜ state (now (map .exit)) (r .over) ≡ told at (n .dx) (n .dy) o (pos 0) (state (now (map .entry)) (n .over)) ⌝ }
-    ensures { λ r. ⌜ Holds r (now (map .exit)) at ⌝ }
+    requires { ⌜ Sized n × UnitStep o ⌝ }
+    ensures { λ r. ⌜ state (now (map .exit)) (r .over) ≡ offerFlagged at (n .dx) (n .dy) o (pos 0) (state (now (map .entry)) (n .over)) ⌝ }
+    ensures { λ r. ⌜ AtPixel r (now (map .exit)) at ⌝ }
 {
     let d = read(map, at, n.over);
     if !is_allowed(n, o) {
-        return Held {
+        return SizedVector {
             dx: d.dx,
             dy: d.dy,
             size: d.size,
@@ -132,7 +132,7 @@ pub fn relax(map: &mut [i16], at: usize, n: Held, o: i32) -> Held
     if size < d.size {
         let dx = raster::shifted(n.dx, o);
         raster::put_at(map, at, dx, n.dy);
-        return Held {
+        return SizedVector {
             dx,
             dy: n.dy,
             size,
@@ -145,13 +145,13 @@ pub fn relax(map: &mut [i16], at: usize, n: Held, o: i32) -> Held
 // ---- from row to row: o is −1 from the row above and 1 from the row below
 
 // The vector of pixel p with the step (0, o).
-fn ahead(map: &[i16], p: usize, o: i32) -> Held
-    requires { ⌜ Inside p (now map) × Step o ⌝ }
+fn ahead(map: &[i16], p: usize, o: i32) -> SizedVector
+    requires { ⌜ Inside p (now map) × UnitStep o ⌝ }
     ensures { λ r. ⌜ Ahead o r (now (map .entry)) p ⌝ }
 {
     let dx = raster::dx_at(map, p);
     let dy = raster::shifted(raster::dy_at(map, p), o);
-    Held {
+    SizedVector {
         dx,
         dy,
         size: raster::size_of(dx, dy),
@@ -160,12 +160,12 @@ fn ahead(map: &[i16], p: usize, o: i32) -> Held
 }
 
 // What `ahead` gives of a pixel that is not there: the vector of an unlabelled one, with the step (0, o).
-pub fn nothing(o: i32) -> Held
-    requires { ⌜ Step o ⌝ }
+pub fn nothing(o: i32) -> SizedVector
+    requires { ⌜ UnitStep o ⌝ }
     ensures { λ r. ⌜ Stepped o r × (unlabelled (r .dx) (r .dy -ℤ o) ≡ true) ⌝ }
 {
     let dy = raster::shifted(-32768, o);
-    Held {
+    SizedVector {
         dx: -32768,
         dy,
         size: raster::size_of(-32768, dy),
@@ -174,10 +174,10 @@ pub fn nothing(o: i32) -> Held
 }
 
 // Pixel `at` takes from its neighbour `from`, which stands at (0, o) from it.
-pub fn take(map: &mut [i16], at: usize, from: usize, o: i32, over: bool) -> bool
+pub fn relax_straight(map: &mut [i16], at: usize, from: usize, o: i32, over: bool) -> bool
     requires { ⌜ Inside at (now map) × Inside from (now map) ⌝ }
-    requires { ⌜ Step o ⌝ }
-    ensures { λ r. ⌜ state (now (map .exit)) r ≡ take at from (pos 0) o (state (now (map .entry)) over) ⌝ }
+    requires { ⌜ UnitStep o ⌝ }
+    ensures { λ r. ⌜ state (now (map .exit)) r ≡ relaxFlagged at from (pos 0) o (state (now (map .entry)) over) ⌝ }
 {
     let c = ahead(map, from, o);
     let d = read(map, at, over);
@@ -187,9 +187,9 @@ pub fn take(map: &mut [i16], at: usize, from: usize, o: i32, over: bool) -> bool
 }
 
 // The vector of pixel x of the row of w pixels from `start` on, if there is one, with the step (0, o).
-pub fn neighbour(map: &[i16], start: usize, x: usize, w: usize, o: i32) -> Held
-    requires { ⌜ (2 * (start + w) ≤ length (now map)) × Step o ⌝ }
-    ensures { λ r. ⌜ Seen (ltb x w) o r (now (map .entry)) (start + x) ⌝ }
+pub fn neighbour(map: &[i16], start: usize, x: usize, w: usize, o: i32) -> SizedVector
+    requires { ⌜ (2 * (start + w) ≤ length (now map)) × UnitStep o ⌝ }
+    ensures { λ r. ⌜ IfThere (ltb x w) o r (now (map .entry)) (start + x) ⌝ }
 {
     if x < w {
         return ahead(map, start + x, o);
@@ -201,15 +201,15 @@ pub fn neighbour(map: &[i16], start: usize, x: usize, w: usize, o: i32) -> Held
 pub fn three(
     map: &mut [i16],
     at: usize,
-    left: Held,
-    mid: Held,
-    right: Held,
+    left: SizedVector,
+    mid: SizedVector,
+    right: SizedVector,
     o: i32,
     over: bool,
 ) -> bool
     requires { ⌜ Inside at (now map) × (Stepped o left × (Stepped o mid × Stepped o right)) ⌝ }
-    requires { ⌜ Step o ⌝ }
-    ensures { λ r. ⌜ state (now (map .exit)) r ≡ told at (right .dx) (right .dy -ℤ o) (pos 1) o (told at (mid .dx) (mid .dy -ℤ o) (pos 0) o (told at (left .dx) (left .dy -ℤ o) (negsuc 0) o (state (now (map .entry)) over))) ⌝ }
+    requires { ⌜ UnitStep o ⌝ }
+    ensures { λ r. ⌜ state (now (map .exit)) r ≡ offerFlagged at (right .dx) (right .dy -ℤ o) (pos 1) o (offerFlagged at (mid .dx) (mid .dy -ℤ o) (pos 0) o (offerFlagged at (left .dx) (left .dy -ℤ o) (negsuc 0) o (state (now (map .entry)) over))) ⌝ }
 {
     let d = read(map, at, over);
     let a = better(d, left, -1, o);

@@ -19,7 +19,7 @@ use Rattle.columns.proofs.Back.{Back, found, nothing, back}
 -- r is the row of the nearest copper of column i from row y, among equals the least row
 pub record NearestRow (copper : Mask) (h i y r : ℕ) : Type 0 where
   pub on : r < h
-  pub metal : copper i r ≡ true
+  pub is-copper : copper i r ≡ true
   pub least : (j : ℕ) → j < h → copper i j ≡ true → gap y r ≤ gap y j
   pub first : (j : ℕ) → j < r → copper i j ≡ true → gap y r < gap y j
 
@@ -45,7 +45,7 @@ module _ (copper : Mask) (h i y : ℕ) (inside : y < h) where
   unfolding gap
   nearest-up n u under = record {
     on = omega arith;
-    metal = u .copper-at;
+    is-copper = u .copper-at;
     least = λ j l c. elim (decLe j y) [ yes q ↦ omega (arith, u .near, u .beyond j q c) | no q ↦ omega (arith, u .near, under j (omega arith) l c) ];
     first = λ j l c. omega (arith, u .near, u .beyond j (omega arith) c);
   }
@@ -54,7 +54,7 @@ module _ (copper : Mask) (h i y : ℕ) (inside : y < h) where
   unfolding gap
   nearest-down m d over = record {
     on = d .near;
-    metal = d .copper-at;
+    is-copper = d .copper-at;
     least = λ j l c. elim (decLe j y) [ yes q ↦ omega (arith, over j q c) | no q ↦ omega (arith, d .beyond j (omega arith) l c) ];
     first = λ j l c. elim (decLe j y) [ yes q ↦ omega (arith, over j q c) | no q ↦ absurd (omega (arith, d .beyond j (omega arith) (omega (arith, d .near)) c)) ];
   }
@@ -68,9 +68,9 @@ module _ (copper : Mask) (h i y : ℕ) (inside : y < h) where
   up-found n l c none = record {
     near = l;
     copper-at = c;
-    beyond = λ j k metal. elim (decLe (j + n) y) [
+    beyond = λ j k is-copper. elim (decLe (j + n) y) [
       | yes q ↦ q
-      | no q ↦ let e : y - (y - j) ≡ j = omega arith in absurd (bare metal (sym (ap (copper i) e) ∙ none (y - j) (omega arith)))
+      | no q ↦ let e : y - (y - j) ≡ j = omega arith in absurd (bare is-copper (sym (ap (copper i) e) ∙ none (y - j) (omega arith)))
     ];
   }
 
@@ -82,9 +82,9 @@ module _ (copper : Mask) (h i y : ℕ) (inside : y < h) where
   down-found m l c none = record {
     near = omega arith;
     copper-at = ap (copper i) (omega arith) ∙ c;
-    beyond = λ j k on metal. elim (decLe (y + m) j) [
+    beyond = λ j k on is-copper. elim (decLe (y + m) j) [
       | yes q ↦ q
-      | no q ↦ let e : h - 1 - (h - 1 - y - (j - y)) ≡ j = seen j k on in absurd (bare metal (sym (ap (copper i) e) ∙ none (j - y) (omega arith)))
+      | no q ↦ let e : h - 1 - (h - 1 - y - (j - y)) ≡ j = seen j k on in absurd (bare is-copper (sym (ap (copper i) e) ∙ none (j - y) (omega arith)))
     ];
   }
     where

@@ -16,8 +16,8 @@ use lib.Signed.{mag}
 use borrow.Author.Tests.{ne-eqb}
 use Rattle.raster.specs.Pixels.{Mask, index}
 use Rattle.raster.specs.PixelsLaws.{index-inside}
-use Rattle.columns.specs.Column.{farther, far, up, shorter, wayOf, isZero, Held}
-use Rattle.columns.specs.Passes.{Room, metal, shortened, Spread}
+use Rattle.columns.specs.Column.{farther, far, up, shorter, wayOf, isZero, EveryPixel}
+use Rattle.columns.specs.Passes.{Room, copperWays, shortened, Spread}
 
 -- ---- a line
 
@@ -84,10 +84,10 @@ module _ {w h : ℕ} {r : ℕ → ℕ} {copper : Mask} {make : (x y : ℕ) → �
     pass-room few x a = rw (s .line x a) (omega (arith, s .on, previous-mag (λ i. copper x (r i)) t))
 
     -- one row more: it is not one of the others, and has what stood there at first
-    pub pass-more : {y u : ℕ} {metal : ℕ → Bool} {made : ℕ → ℤ → ℤ} {ways″ near″ : List ℤ} → t < h → r t ≡ y → y < h → u ≡ t + 1 → ((k : ℕ) → k < h → r k ≡ r t → k ≡ t)
-        → ((x : ℕ) → getD ways′ (index w x y) (pos 0) ≡ getD ways (index w x (r t)) (pos 0) → (metal x ≡ copper x (r t)) × ((v : ℤ) → made x v ≡ make x (r t) v))
-        → Spread (y * w) w metal made ways′ near′ ways″ near″ → Pass w h r copper make ways near u ways″ near″
-    pass-more {y} {u} {metal} {made} {ways″} {near″} more here on next once same p = rw next (record {
+    pub pass-more : {y u : ℕ} {copperWays : ℕ → Bool} {made : ℕ → ℤ → ℤ} {ways″ near″ : List ℤ} → t < h → r t ≡ y → y < h → u ≡ t + 1 → ((k : ℕ) → k < h → r k ≡ r t → k ≡ t)
+        → ((x : ℕ) → getD ways′ (index w x y) (pos 0) ≡ getD ways (index w x (r t)) (pos 0) → (copperWays x ≡ copper x (r t)) × ((v : ℤ) → made x v ≡ make x (r t) v))
+        → Spread (y * w) w copperWays made ways′ near′ ways″ near″ → Pass w h r copper make ways near u ways″ near″
+    pass-more {y} {u} {copperWays} {made} {ways″} {near″} more here on next once same p = rw next (record {
       on = omega arith;
       long = p .long ∙ s .long;
       near-long = p .near-long ∙ s .near-long;
@@ -96,7 +96,7 @@ module _ {w h : ℕ} {r : ℕ → ℕ} {copper : Mask} {make : (x y : ℕ) → �
         | no m ↦ let e : k ≡ t = omega arith in rw (e, here) (p .here x a ∙ rw (← here) (same x (was x a) .1 _) ∙ ap (make x y) (far-here x a))
       ];
       rest = λ x k a l m. other x k a (λ e. omega (arith, once k m e)) ∙ s .rest x k a (omega arith) m;
-      behind = λ i l. p .over i (omega (arith, mul-le-mul-right w on)) ∙ s .behind i l;
+      behind = λ i l. p .high-kept i (omega (arith, mul-le-mul-right w on)) ∙ s .behind i l;
       line = λ x a. rw add-one (far-here x a);
     })
       where
@@ -108,23 +108,23 @@ module _ {w h : ℕ} {r : ℕ → ℕ} {copper : Mask} {make : (x y : ℕ) → �
 
         other : (x k : ℕ) → x < w → r k ≢ r t → getD ways″ (index w x (r k)) (pos 0) ≡ getD ways′ (index w x (r k)) (pos 0)
         other x k a n = elim (decLt (r k) y) [
-          | yes l ↦ p .under (index w x (r k)) (index-inside w x (r k) a y l)
-          | no l ↦ let m : y < r k = omega arith in p .over (index w x (r k)) (omega (arith, mul-le-mul-right w m))
+          | yes l ↦ p .low-kept (index w x (r k)) (index-inside w x (r k) a y l)
+          | no l ↦ let m : y < r k = omega arith in p .high-kept (index w x (r k)) (omega (arith, mul-le-mul-right w m))
         ]
 
     -- all rows, if row r y is the y-th
-    pub pass-all : t ≡ h → ((y : ℕ) → y < h → (r y < h) × (r (r y) ≡ y)) → Held w h (λ x y. make x y (far (λ i. copper x (r i)) (r y))) ways ways′
+    pub pass-all : t ≡ h → ((y : ℕ) → y < h → (r y < h) × (r (r y) ≡ y)) → EveryPixel w h (λ x y. make x y (far (λ i. copper x (r i)) (r y))) ways ways′
     pass-all e back = record { long = s .long; at = λ x y a b. rw (back y b .1) at (s .made x (r y) a (omega (arith, back y b .0))); behind = s .behind }
 
 -- ---- both
 
-pub both-passes : (copper : Mask) {w h : ℕ} {m n o : List ℤ} → Held w h (up copper) m n → Held w h (shortened n w h) n o
-    → Held w h (wayOf copper h) m o
+pub both-passes : (copper : Mask) {w h : ℕ} {m n o : List ℤ} → EveryPixel w h (up copper) m n → EveryPixel w h (shortened n w h) n o
+    → EveryPixel w h (wayOf copper h) m o
 both-passes copper {w} {h} {m} {n} {o} r s = record {
   long = s .long ∙ r .long;
-  at = λ x y a b. s .at x y a b ∙ ap₂ shorter (r .at x y a b) (far-same _ _ (h - 1 - y) (λ j l. metal-is x (h - 1 - j) a (omega arith)));
+  at = λ x y a b. s .at x y a b ∙ ap₂ shorter (r .at x y a b) (far-same _ _ (h - 1 - y) (λ j l. copper-is x (h - 1 - j) a (omega arith)));
   behind = λ i l. s .behind i l ∙ r .behind i l;
 }
   where
-    metal-is : (x y : ℕ) → x < w → y < h → metal n w x y ≡ copper x y
-    metal-is x y a b = ap isZero (r .at x y a b) ∙ far-zero (copper x) y
+    copper-is : (x y : ℕ) → x < w → y < h → copperWays n w x y ≡ copper x y
+    copper-is x y a b = ap isZero (r .at x y a b) ∙ far-zero (copper x) y

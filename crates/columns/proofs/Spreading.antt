@@ -27,8 +27,8 @@ module _ {base w : ℕ} {copper : ℕ → Bool} {made : ℕ → ℤ → ℤ} {wa
       near-long = refl;
       steps = λ z l. absurd (omega arith);
       here = λ z l. absurd (omega arith);
-      under = λ i l. refl;
-      over = λ i l. refl;
+      low-kept = λ i l. refl;
+      high-kept = λ i l. refl;
     };
     left = λ z l. refl;
   }
@@ -45,8 +45,8 @@ module _ {base w : ℕ} {copper : ℕ → Bool} {made : ℕ → ℤ → ℤ} {wa
         here =
             set-more (pos 0) (λ a u. u ≡ made a (getD (set near′ x v) a (pos 0))) (λ a. base + a) ways′ i (λ a l. omega arith)
             (rw (getD-set-same near′ x v (pos 0) j) f) (λ a l. rw (other a (omega arith)) (s .done .here a l));
-        under = λ a l. getD-set-other ways′ (base + x) a z (pos 0) (omega arith) ∙ s .done .under a l;
-        over = λ a l. getD-set-other ways′ (base + x) a z (pos 0) (omega arith) ∙ s .done .over a (omega arith);
+        low-kept = λ a l. getD-set-other ways′ (base + x) a z (pos 0) (omega arith) ∙ s .done .low-kept a l;
+        high-kept = λ a l. getD-set-other ways′ (base + x) a z (pos 0) (omega arith) ∙ s .done .high-kept a (omega arith);
       };
       left = λ a l. other a (omega arith) ∙ s .left a (omega arith);
     }

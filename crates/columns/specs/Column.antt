@@ -45,7 +45,7 @@ isZero (pos n) = eqb n 0
 isZero (negsuc n) = false
 
 -- every pixel has f, and what stands behind them is as it was
-pub record Held (w h : ℕ) (f : (x y : ℕ) → ℤ) (before after : List ℤ) : Type 0 where
+pub record EveryPixel (w h : ℕ) (f : (x y : ℕ) → ℤ) (before after : List ℤ) : Type 0 where
   pub long : length after ≡ length before
   pub at : (x y : ℕ) → x < w → y < h → getD after (index w x y) (pos 0) ≡ f x y
   pub behind : (i : ℕ) → h * w ≤ i → getD after i (pos 0) ≡ getD before i (pos 0)

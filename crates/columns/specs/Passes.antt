@@ -20,12 +20,12 @@ pub record Spread (base w : ℕ) (copper : ℕ → Bool) (made : ℕ → ℤ →
   pub near-long : length near′ ≡ length near
   pub steps : (x : ℕ) → x < w → getD near′ x (pos 0) ≡ farther (copper x) (getD near x (pos 0))
   pub here : (x : ℕ) → x < w → getD ways′ (base + x) (pos 0) ≡ made x (getD near′ x (pos 0))
-  pub under : (i : ℕ) → i < base → getD ways′ i (pos 0) ≡ getD ways i (pos 0)
-  pub over : (i : ℕ) → base + w ≤ i → getD ways′ i (pos 0) ≡ getD ways i (pos 0)
+  pub low-kept : (i : ℕ) → i < base → getD ways′ i (pos 0) ≡ getD ways i (pos 0)
+  pub high-kept : (i : ℕ) → base + w ≤ i → getD ways′ i (pos 0) ≡ getD ways i (pos 0)
 
 -- the shorter way of each pixel, from a list of the ways upwards
-abbrev pub metal : List ℤ → (w : ℕ) → Mask
-metal ups w x y = isZero (getD ups (index w x y) (pos 0))
+abbrev pub copperWays : List ℤ → (w : ℕ) → Mask
+copperWays ups w x y = isZero (getD ups (index w x y) (pos 0))
 
 abbrev pub shortened : List ℤ → (w h x y : ℕ) → ℤ
-shortened ups w h x y = shorter (getD ups (index w x y) (pos 0)) (down (metal ups w) h x y)
+shortened ups w h x y = shorter (getD ups (index w x y) (pos 0)) (down (copperWays ups w) h x y)

@@ -8,7 +8,7 @@ ghost use lib.Dec.{eqb};
 ghost use lib.IntN.{pos, negsuc};
 ghost use lib.ListN.{length, getD};
 ghost use Rattle.raster.specs.Sheet.{copperOf};
-ghost use Rattle.columns.specs.Column.{farther, up, shorter, wayOf, isZero, Held};
+ghost use Rattle.columns.specs.Column.{farther, up, shorter, wayOf, isZero, EveryPixel};
 ghost use Rattle.columns.specs.Passes.{Room, Spread, shortened};
 
 // One step farther than v, or 0 on copper; −1 stays.
@@ -42,7 +42,7 @@ fn row_down(sheet: &[u8], ways: &mut [i16], near: &mut [i16], base: usize, w: us
 fn rows_down(sheet: &[u8], ways: &mut [i16], near: &mut [i16], w: usize, h: usize)
     requires { ⌜ (h ≤ 2048) × ((length (now sheet) ≡ h * w) × ((h * w ≤ length (now ways)) × (w ≤ length (now near)))) ⌝ }
     requires { ⌜ ((x : ℕ) → x < w → getD (now near) x (pos 0) ≡ negsuc 0) ⌝ }
-    ensures { λ _. ⌜ Held w h (up (copperOf (now (sheet .entry)) w)) (now (ways .entry)) (now (ways .exit)) ⌝ }
+    ensures { λ _. ⌜ EveryPixel w h (up (copperOf (now (sheet .entry)) w)) (now (ways .entry)) (now (ways .exit)) ⌝ }
 {
     for y in 0..h {
         row_down(sheet, ways, near, y * w, w);
@@ -52,7 +52,7 @@ fn rows_down(sheet: &[u8], ways: &mut [i16], near: &mut [i16], w: usize, h: usiz
 // The ways upwards of all pixels.
 fn pass_down(sheet: &[u8], ways: &mut [i16], w: usize, h: usize)
     requires { ⌜ (w ≤ 2048) × ((h ≤ 2048) × ((length (now sheet) ≡ h * w) × (h * w ≤ length (now ways)))) ⌝ }
-    ensures { λ _. ⌜ Held w h (up (copperOf (now (sheet .entry)) w)) (now (ways .entry)) (now (ways .exit)) ⌝ }
+    ensures { λ _. ⌜ EveryPixel w h (up (copperOf (now (sheet .entry)) w)) (now (ways .entry)) (now (ways .exit)) ⌝ }
 {
     let mut above = [-1i16; 2048];
     rows_down(sheet, ways, &mut above, w, h);
@@ -95,7 +95,7 @@ fn row_up(ways: &mut [i16], near: &mut [i16], base: usize, w: usize)
 fn rows_up(ways: &mut [i16], near: &mut [i16], w: usize, h: usize)
     requires { ⌜ (h ≤ 2048) × ((h * w ≤ length (now ways)) × (w ≤ length (now near))) ⌝ }
     requires { ⌜ ((x : ℕ) → x < w → getD (now near) x (pos 0) ≡ negsuc 0) ⌝ }
-    ensures { λ _. ⌜ Held w h (shortened (now (ways .entry)) w h) (now (ways .entry)) (now (ways .exit)) ⌝ }
+    ensures { λ _. ⌜ EveryPixel w h (shortened (now (ways .entry)) w h) (now (ways .entry)) (now (ways .exit)) ⌝ }
 {
     let mut y = h;
     while 0 < y {
@@ -107,7 +107,7 @@ fn rows_up(ways: &mut [i16], near: &mut [i16], w: usize, h: usize)
 // The shorter ways of all pixels, from the ways upwards.
 fn pass_up(ways: &mut [i16], w: usize, h: usize)
     requires { ⌜ (w ≤ 2048) × ((h ≤ 2048) × (h * w ≤ length (now ways))) ⌝ }
-    ensures { λ _. ⌜ Held w h (shortened (now (ways .entry)) w h) (now (ways .entry)) (now (ways .exit)) ⌝ }
+    ensures { λ _. ⌜ EveryPixel w h (shortened (now (ways .entry)) w h) (now (ways .entry)) (now (ways .exit)) ⌝ }
 {
     let mut below = [-1i16; 2048];
     rows_up(ways, &mut below, w, h);
@@ -116,7 +116,7 @@ fn pass_up(ways: &mut [i16], w: usize, h: usize)
 // The way of every pixel to the nearest copper of its column: −32,768 where the column has none.
 pub fn ways(sheet: &[u8], ways: &mut [i16], w: usize, h: usize)
     requires { ⌜ (w ≤ 2048) × ((h ≤ 2048) × ((length (now sheet) ≡ h * w) × (h * w ≤ length (now ways)))) ⌝ }
-    ensures { λ _. ⌜ Held w h (wayOf (copperOf (now (sheet .entry)) w) h) (now (ways .entry)) (now (ways .exit)) ⌝ }
+    ensures { λ _. ⌜ EveryPixel w h (wayOf (copperOf (now (sheet .entry)) w) h) (now (ways .entry)) (now (ways .exit)) ⌝ }
 {
     pass_down(sheet, ways, w, h);
     pass_up(ways, w, h);

@@ -13,7 +13,7 @@ use mir.Syntax.{w16}
 use mir.Val.{SFits, toZ, ofZ}
 use mir.ValLaws.{toZ-ofZ}
 use borrow.Author.Tests.{leb-false}
-use Rattle.cutter.specs.Directions.{steps, stepRight, stepDown, along, leaves}
+use Rattle.cutter.specs.Directions.{steps, stepRight, stepDown, placeAfter, leavesSide}
 
 -- what the code's table of pairs holds: column 0 to the right, 1 down
 unfoldable pub read : (column direction : ℕ) → ℤ
@@ -45,38 +45,38 @@ read-is (suc (suc (suc (suc (suc (suc (suc zero))))))) l = (refl, refl)
 read-is (suc (suc (suc (suc (suc (suc (suc (suc n)))))))) l = absurd (omega arith)
 
 module _ (side n t : ℕ) where
-  pub ahead : (z : ℤ) → T (ltZ (pos 0) z) → (t + n ≡ along z n t) × (leb side (t + n) ≡ leaves z side n t)
+  pub ahead : (z : ℤ) → T (ltZ (pos 0) z) → (t + n ≡ placeAfter z n t) × (leb side (t + n) ≡ leavesSide z side n t)
   ahead (pos zero) up = absurd (omega (arith, ltb→lt 0 0 up))
   ahead (pos (suc k)) up = (refl, refl)
   ahead (negsuc k) up = absurd up
 
-  pub back : (z : ℤ) → T (ltZ z (pos 0)) → (t - n ≡ along z n t) × (ltb t n ≡ leaves z side n t)
+  pub back : (z : ℤ) → T (ltZ z (pos 0)) → (t - n ≡ placeAfter z n t) × (ltb t n ≡ leavesSide z side n t)
   back (pos k) down = absurd (omega (arith, ltb→lt k 0 down))
   back (negsuc k) down = (refl, refl)
 
-  pub still : (z : ℤ) → T (not (ltZ (pos 0) z)) → T (not (ltZ z (pos 0))) → (t ≡ along z n t) × (false ≡ leaves z side n t)
+  pub still : (z : ℤ) → T (not (ltZ (pos 0) z)) → T (not (ltZ z (pos 0))) → (t ≡ placeAfter z n t) × (false ≡ leavesSide z side n t)
   still (pos zero) up down = (refl, refl)
   still (pos (suc k)) up down = absurd (omega (arith, nltb→le 0 (suc k) up))
   still (negsuc k) up down = absurd down
 
 -- steps that do not leave a line end on it, and so does each on the way
-pub stays : (z : ℤ) (side n t : ℕ) → t < side → leaves z side n t ≡ false → along z n t < side
-stays (pos zero) side n t l e = l
-stays (pos (suc k)) side n t l e = leb-false side (t + n) e
-stays (negsuc k) side n t l e = omega arith
+pub run-stays : (z : ℤ) (side n t : ℕ) → t < side → leavesSide z side n t ≡ false → placeAfter z n t < side
+run-stays (pos zero) side n t l e = l
+run-stays (pos (suc k)) side n t l e = leb-false side (t + n) e
+run-stays (negsuc k) side n t l e = omega arith
 
-pub between : (z : ℤ) (side n t : ℕ) {i : ℕ} → t < side → along z n t < side → i ≤ n → along z i t < side
+pub between : (z : ℤ) (side n t : ℕ) {i : ℕ} → t < side → placeAfter z n t < side → i ≤ n → placeAfter z i t < side
 between (pos zero) side n t l e m = l
 between (pos (suc k)) side n t l e m = omega arith
 between (negsuc k) side n t l e m = omega arith
 
 -- what code works out with a step that it has read
-pub leaving : (side n t : ℕ) {z d : ℤ} {r : Bool} → mag z < 32768 → z ≡ d → r ≡ leaves (toZ w16 (ofZ w16 z)) side n t → r ≡ leaves d side n t
+pub leaving : (side n t : ℕ) {z d : ℤ} {r : Bool} → mag z < 32768 → z ≡ d → r ≡ leavesSide (toZ w16 (ofZ w16 z)) side n t → r ≡ leavesSide d side n t
 leaving side n t {z} ok e r =
     let f : SFits w16 z = record { sfits = ok } in
-    (simp (toZ-ofZ, f) at r) ∙ ap (λ (k : ℤ). leaves k side n t) e
+    (simp (toZ-ofZ, f) at r) ∙ ap (λ (k : ℤ). leavesSide k side n t) e
 
-pub stepped : (n t : ℕ) {z d : ℤ} {r : ℕ} → mag z < 32768 → z ≡ d → r ≡ along (toZ w16 (ofZ w16 z)) n t → r ≡ along d n t
+pub stepped : (n t : ℕ) {z d : ℤ} {r : ℕ} → mag z < 32768 → z ≡ d → r ≡ placeAfter (toZ w16 (ofZ w16 z)) n t → r ≡ placeAfter d n t
 stepped n t {z} ok e r =
     let f : SFits w16 z = record { sfits = ok } in
-    (simp (toZ-ofZ, f) at r) ∙ ap (λ (k : ℤ). along k n t) e
+    (simp (toZ-ofZ, f) at r) ∙ ap (λ (k : ℤ). placeAfter k n t) e

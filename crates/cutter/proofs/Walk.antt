@@ -12,37 +12,37 @@ use lib.Dec.{ltb}
 use lib.IntN.{ℤ, pos, negsuc, _+ℤ_, natAbs}
 use lib.ListN.{length}
 use borrow.Author.Tests.{ltb-false, leb-false, lt-ltb, le-ltb, le-leb, lt-leb}
-use Rattle.raster.specs.Loop.{some}
-use Rattle.raster.specs.LoopLaws.{some-false}
+use Rattle.raster.specs.Loop.{anyBelow}
+use Rattle.raster.specs.LoopLaws.{any-false}
 use Rattle.raster.specs.Tests.{or-left, or-right}
 use Rattle.cutter.specs.declared.Cutter.{Cutter}
-use Rattle.cutter.specs.Directions.{steps, stepRight, stepDown, along, leaves, columnAfter, rowAfter, walk, inLine, isPixel}
-use Rattle.cutter.specs.Gates.{strays, OnSheet}
-use Rattle.cutter.proofs.Signs.{stays, between}
+use Rattle.cutter.specs.Directions.{steps, stepRight, stepDown, placeAfter, leavesSide, columnAfter, rowAfter, walk, inLine, isPixel}
+use Rattle.cutter.specs.Gates.{leavesSheet, OnSheet}
+use Rattle.cutter.proofs.Signs.{run-stays, between}
 
 -- no step of the table is longer than 1: tested once, carried to every entry
 single : (d : ℕ) → d ≤ 7 → (natAbs (stepRight d) ≤ 1) × (natAbs (stepDown d) ≤ 1)
-unfolding steps some
+unfolding steps anyBelow
 single d l =
-    let e = some-false 8 (λ k. ltb 1 (natAbs (stepRight k)) || ltb 1 (natAbs (stepDown k))) d refl (omega arith) in
+    let e = any-false 8 (λ k. ltb 1 (natAbs (stepRight k)) || ltb 1 (natAbs (stepDown k))) d refl (omega arith) in
     (ltb-false 1 _ (or-left _ (ltb 1 (natAbs (stepDown d))) e), ltb-false 1 _ (or-right (ltb 1 (natAbs (stepRight d))) _ e))
 
 -- ---- on a line
 
 -- no step
-start : (z : ℤ) (side t : ℕ) → t < side → (along z 0 t ≡ t) × (leaves z side 0 t ≡ false)
+start : (z : ℤ) (side t : ℕ) → t < side → (placeAfter z 0 t ≡ t) × (leavesSide z side 0 t ≡ false)
 start (pos zero) side t l = (refl, refl)
 start (pos (suc k)) side t l = (omega arith, lt-leb side (t + 0) (omega arith))
 start (negsuc k) side t l = (omega arith, le-ltb t 0 (omega arith))
 
 -- steps that do not leave it have not left it on the way
-earlier : (z : ℤ) (side n t i : ℕ) → i ≤ n → leaves z side n t ≡ false → leaves z side i t ≡ false
+earlier : (z : ℤ) (side n t i : ℕ) → i ≤ n → leavesSide z side n t ≡ false → leavesSide z side i t ≡ false
 earlier (pos zero) side n t i l e = refl
 earlier (pos (suc k)) side n t i l e = lt-leb side (t + i) (omega (arith, leb-false side (t + n) e))
 earlier (negsuc k) side n t i l e = le-ltb t i (omega (arith, ltb-false t n e))
 
 -- the place of one step more: on the line unless the steps leave it
-on : (z : ℤ) (side n t : ℕ) → natAbs z ≤ 1 → t < side → leaves z side n t ≡ false → inLine side (pos (along z n t) +ℤ z) ≡ not (leaves z side (suc n) t)
+on : (z : ℤ) (side n t : ℕ) → natAbs z ≤ 1 → t < side → leavesSide z side n t ≡ false → inLine side (pos (placeAfter z n t) +ℤ z) ≡ not (leavesSide z side (suc n) t)
 on (pos zero) side n t k l e = lt-ltb (t + 0) side (omega arith)
 on (pos (suc zero)) side n t k l e = elim (decLt (t + n + 1) side) [
   | yes h ↦ rw (lt-ltb (t + n + 1) side h, lt-leb side (t + suc n) (omega arith))
@@ -56,7 +56,7 @@ on (negsuc zero) side n t k l e = elim (decLt n t) [
 on (negsuc (suc m)) side n t k l e = absurd (omega arith)
 
 -- and where it is then
-next : (z : ℤ) (side n t : ℕ) → natAbs z ≤ 1 → leaves z side (suc n) t ≡ false → pos (along z n t) +ℤ z ≡ pos (along z (suc n) t)
+next : (z : ℤ) (side n t : ℕ) → natAbs z ≤ 1 → leavesSide z side (suc n) t ≡ false → pos (placeAfter z n t) +ℤ z ≡ pos (placeAfter z (suc n) t)
 next (pos zero) side n t k e = ap pos (omega arith)
 next (pos (suc zero)) side n t k e = ap pos (omega arith)
 next (pos (suc (suc m))) side n t k e = absurd (omega arith)
@@ -72,10 +72,10 @@ either false false = refl
 
 module _ (c : Cutter) (d : ℕ) (known : d ≤ 7) (across : c .x < c .width) (down : c .y < c .height) where
   abbrev right : ℕ → Bool
-  right n = leaves (stepRight d) (c .width) n (c .x)
+  right n = leavesSide (stepRight d) (c .width) n (c .x)
 
   abbrev below : ℕ → Bool
-  below n = leaves (stepDown d) (c .height) n (c .y)
+  below n = leavesSide (stepDown d) (c .height) n (c .y)
 
   both-earlier : (n i : ℕ) → i ≤ n → right n || below n ≡ false → (right i ≡ false) × (below i ≡ false)
   both-earlier n i l e = (
@@ -96,8 +96,8 @@ module _ (c : Cutter) (d : ℕ) (known : d ≤ 7) (across : c .x < c .width) (do
       )
 
   -- what the code tests is that one of the steps ends at no pixel
-  pub leaves-sheet : (n : ℕ) → right n || below n ≡ strays c d n
-  unfolding strays some walk
+  pub leaves-sheet : (n : ℕ) → right n || below n ≡ leavesSheet c d n
+  unfolding leavesSheet anyBelow walk
   leaves-sheet zero = rw (start (stepRight d) (c .width) (c .x) across .1, start (stepDown d) (c .height) (c .y) down .1)
   leaves-sheet (suc n) = rw (add-one n, ← leaves-sheet n) (go (right n || below n) (right (suc n) || below (suc n)) refl refl)
     where
@@ -117,11 +117,11 @@ module _ (c : Cutter) (d : ℕ) (known : d ≤ 7) (across : c .x < c .width) (do
           (sym f ∙ either (right (suc n)) (below (suc n)))
 
   -- after i of the steps, a run that does not leave the sheet is at the pixel that it tests
-  pub reached : (n : ℕ) → strays c d n ≡ false → (i : ℕ) → i ≤ n → walk d i (pos (c .x), pos (c .y)) ≡ (pos (columnAfter d i (c .x)), pos (rowAfter d i (c .y)))
+  pub reached : (n : ℕ) → leavesSheet c d n ≡ false → (i : ℕ) → i ≤ n → walk d i (pos (c .x), pos (c .y)) ≡ (pos (columnAfter d i (c .x)), pos (rowAfter d i (c .y)))
   reached n e i l = let o = both-earlier n i l (leaves-sheet n ∙ e) in at-pixel i (rw (o .0, o .1))
 
   -- such a run ends on the sheet
-  pub on-sheet : (n : ℕ) {map : List ℤ} → length map ≡ 2 * (c .height * c .width) → strays c d n ≡ false → OnSheet c map d n
+  pub on-sheet : (n : ℕ) {map : List ℤ} → length map ≡ 2 * (c .height * c .width) → leavesSheet c d n ≡ false → OnSheet c map d n
   on-sheet n held e =
       let o = both-earlier n n (omega arith) (leaves-sheet n ∙ e) in
       record {
@@ -129,8 +129,8 @@ module _ (c : Cutter) (d : ℕ) (known : d ≤ 7) (across : c .x < c .width) (do
         start = record { held = held; across = across; down = down };
         end = record {
           held = held;
-          across = stays (stepRight d) (c .width) n (c .x) across (o .0);
-          down = stays (stepDown d) (c .height) n (c .y) down (o .1);
+          across = run-stays (stepRight d) (c .width) n (c .x) across (o .0);
+          down = run-stays (stepDown d) (c .height) n (c .y) down (o .1);
         };
       }
 

@@ -45,20 +45,20 @@ isPixel w h p = inLine w (p .0) && inLine h (p .1)
 -- ---- the same at once, as the code works it out (proofs/Walk)
 
 -- place t of a line after n steps of +1, 0 or −1
-abbrev pub along : (step : ℤ) (n t : ℕ) → ℕ
-along (pos zero) n t = t
-along (pos (suc k)) n t = t + n
-along (negsuc k) n t = t - n
+abbrev pub placeAfter : (step : ℤ) (n t : ℕ) → ℕ
+placeAfter (pos zero) n t = t
+placeAfter (pos (suc k)) n t = t + n
+placeAfter (negsuc k) n t = t - n
 
 -- those steps leave a line of `side` places
-abbrev pub leaves : (step : ℤ) (side n t : ℕ) → Bool
-leaves (pos zero) side n t = false
-leaves (pos (suc k)) side n t = leb side (t + n)
-leaves (negsuc k) side n t = ltb t n
+abbrev pub leavesSide : (step : ℤ) (side n t : ℕ) → Bool
+leavesSide (pos zero) side n t = false
+leavesSide (pos (suc k)) side n t = leb side (t + n)
+leavesSide (negsuc k) side n t = ltb t n
 
 -- the pixel after n steps from (x, y)
 abbrev pub columnAfter : (direction n x : ℕ) → ℕ
-columnAfter d n x = along (stepRight d) n x
+columnAfter d n x = placeAfter (stepRight d) n x
 
 abbrev pub rowAfter : (direction n y : ℕ) → ℕ
-rowAfter d n y = along (stepDown d) n y
+rowAfter d n y = placeAfter (stepDown d) n y

@@ -8,7 +8,7 @@ use lib.Dec.{eqb}
 use lib.IntN.{ℤ, pos}
 use lib.ListN.{length}
 use Rattle.raster.specs.Gate.{Gate, passes}
-use Rattle.raster.specs.Loop.{some}
+use Rattle.raster.specs.Loop.{anyBelow}
 use Rattle.raster.specs.Map.{sizeAt, unlabelledAt}
 use Rattle.raster.specs.Pixels.{index}
 use Rattle.scan.specs.Scan as scan
@@ -31,16 +31,16 @@ mayStand c map = passesAt (c .engine) map (index (c .width) (c .x) (c .y)) (c .q
 -- ---- a run
 
 -- it leaves the sheet: one of its steps, taken one after another, ends at no pixel
-unfoldable pub strays : Cutter → (direction count : ℕ) → Bool
-strays c d n = some n (λ i. not (isPixel (c .width) (c .height) (walk d (i + 1) (pos (c .x), pos (c .y)))))
+unfoldable pub leavesSheet : Cutter → (direction count : ℕ) → Bool
+leavesSheet c d n = anyBelow n (λ i. not (isPixel (c .width) (c .height) (walk d (i + 1) (pos (c .x), pos (c .y)))))
 
 -- the cutter after n steps
-abbrev pub after : (direction n : ℕ) → Cutter → Cutter
-after d n c = record { width = c .width; height = c .height; engine = c .engine; x = columnAfter d n (c .x); y = rowAfter d n (c .y); q = c .q }
+abbrev pub cutterAfter : (direction n : ℕ) → Cutter → Cutter
+cutterAfter d n c = record { width = c .width; height = c .height; engine = c .engine; x = columnAfter d n (c .x); y = rowAfter d n (c .y); q = c .q }
 
 -- some pixel after the start does not pass the cutter
 unfoldable pub blocked : Cutter → List ℤ → (direction count : ℕ) → Bool
-blocked c map d n = some n (λ i. not (mayStand (after d (i + 1) c) map))
+blocked c map d n = anyBelow n (λ i. not (mayStand (cutterAfter d (i + 1) c) map))
 
 -- ---- what the functions require
 
@@ -54,4 +54,4 @@ pub record On (c : Cutter) (map : List ℤ) : Type 0 where
 pub record OnSheet (c : Cutter) (map : List ℤ) (direction n : ℕ) : Type 0 where
   pub known : direction ≤ 7
   pub start : On c map
-  pub end : On (after direction n c) map
+  pub end : On (cutterAfter direction n c) map

@@ -2,8 +2,8 @@
 ghost use mathlib.Core.Path.{_≡_};
 ghost use Prim.Native.Nat.{_-_, _<_, _≤_};
 ghost use Rattle.raster.specs.Gate.{passes};
-ghost use Rattle.cutter.specs.Directions.{stepRight, stepDown, along, leaves, columnAfter, rowAfter};
-ghost use Rattle.cutter.specs.Gates.{gateOf, On, mayStand, OnSheet, after, strays, blocked};
+ghost use Rattle.cutter.specs.Directions.{stepRight, stepDown, placeAfter, leavesSide, columnAfter, rowAfter};
+ghost use Rattle.cutter.specs.Gates.{gateOf, On, mayStand, OnSheet, cutterAfter, leavesSheet, blocked};
 
 // A cutter of q at the pixel (x, y), over a map of width × height pixels that an engine built.
 pub struct Cutter {
@@ -81,7 +81,7 @@ fn less(t: usize, n: usize) -> usize
 
 // The place t after n steps.
 fn place_after(step: i16, n: u16, t: u16) -> usize
-    ensures { λ r. ⌜ r ≡ along step n t ⌝ }
+    ensures { λ r. ⌜ r ≡ placeAfter step n t ⌝ }
 {
     if 0 < step {
         return (t as usize) + (n as usize);
@@ -94,7 +94,7 @@ fn place_after(step: i16, n: u16, t: u16) -> usize
 
 // They leave a line of `side` places.
 fn is_leaving(step: i16, side: u16, n: u16, t: u16) -> bool
-    ensures { λ r. ⌜ r ≡ leaves step side n t ⌝ }
+    ensures { λ r. ⌜ r ≡ leavesSide step side n t ⌝ }
 {
     if 0 < step {
         return (side as usize) <= (t as usize) + (n as usize);
@@ -110,7 +110,7 @@ fn is_leaving(step: i16, side: u16, n: u16, t: u16) -> bool
 // A step of a run of n steps ends at no pixel.
 pub fn leaves_sheet(c: Cutter, d: u16, n: u16) -> bool
     requires { ⌜ (d ≤ 7) × ((c .x < c .width) × (c .y < c .height)) ⌝ }
-    ensures { λ r. ⌜ r ≡ strays c d n ⌝ }
+    ensures { λ r. ⌜ r ≡ leavesSheet c d n ⌝ }
 {
     let across = is_leaving(step_right(d), c.width, n, c.x);
     let down = is_leaving(step_down(d), c.height, n, c.y);
@@ -118,9 +118,9 @@ pub fn leaves_sheet(c: Cutter, d: u16, n: u16) -> bool
 }
 
 // The cutter after n steps, which end on the sheet.
-pub fn moved(mut c: Cutter, d: u16, n: u16) -> Cutter
+pub fn cutter_after(mut c: Cutter, d: u16, n: u16) -> Cutter
     requires { ⌜ (d ≤ 7) × ((columnAfter d n (c .x) < c .width) × (rowAfter d n (c .y) < c .height)) ⌝ }
-    ensures { λ r. ⌜ r ≡ after d n c ⌝ }
+    ensures { λ r. ⌜ r ≡ cutterAfter d n c ⌝ }
 {
     let x = place_after(step_right(d), n, c.x);
     let y = place_after(step_down(d), n, c.y);
@@ -136,7 +136,7 @@ pub fn is_blocked(c: Cutter, map: &[i16], d: u16, count: u16) -> bool
 {
     let mut met = false;
     for i in 0..count {
-        met = !may_stand(moved(c, d, i + 1), map) | met;
+        met = !may_stand(cutter_after(c, d, i + 1), map) | met;
     }
     met
 }

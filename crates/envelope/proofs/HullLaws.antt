@@ -14,8 +14,8 @@ use lib.Seq.{getD-set-same, getD-set-other}
 use borrow.Author.Tests.{leb-true, leb-false, le-leb, lt-leb}
 use Rattle.envelope.specs.Best.{noCost, noSite, price, Site, better, bestSite}
 use Rattle.envelope.specs.BestLaws.{order, price-sum, better-none, better-first, better-new, better-old, Least, best-found}
-use Rattle.envelope.specs.Stack.{holder, Built}
-use Rattle.envelope.specs.Hull.{heightOf, over, crossing, Among, Hull, Half, Popped, Started}
+use Rattle.envelope.specs.Stack.{holder, Envelope}
+use Rattle.envelope.specs.Hull.{heightOf, aboveChord, crossing, Among, Hull, Half, Popped, Started}
 
 -- a price by the point's height
 price-height : (G : List ℕ) (x k : ℕ) → price G x k + 2 * (x * k) ≡ x * x + heightOf G k
@@ -34,30 +34,30 @@ module _ (G : List ℕ) (x a b k : ℕ) (l : a < b) (m : b < k) where
   prices = chord x a (b - a) (k - b) b k _ _ _ _ _ _ (omega arith) (omega arith) (price-height G x a) (price-height G x b) (price-height G x k)
 
   -- the test, on the same sums
-  on-or-above : over G a b k ≡ true → heightOf G k * (b - a) + heightOf G a * (k - b) ≤ heightOf G b * ((b - a) + (k - b))
-  unfolding over
+  on-or-above : aboveChord G a b k ≡ true → heightOf G k * (b - a) + heightOf G a * (k - b) ≤ heightOf G b * ((b - a) + (k - b))
+  unfolding aboveChord
   on-or-above e = let d : (b - a) + (k - b) ≡ k - a = omega arith in rw d (leb-true _ _ e)
 
-  below : over G a b k ≡ false → heightOf G b * ((b - a) + (k - b)) < heightOf G k * (b - a) + heightOf G a * (k - b)
-  unfolding over
+  below : aboveChord G a b k ≡ false → heightOf G b * ((b - a) + (k - b)) < heightOf G k * (b - a) + heightOf G a * (k - b)
+  unfolding aboveChord
   below e = let d : (b - a) + (k - b) ≡ k - a = omega arith in rw d (leb-false _ _ e)
 
   -- what lies on or above the line costs no less than a, or more than k
-  over-loses : over G a b k ≡ true → (price G x a ≤ price G x b) ⊎ (price G x k < price G x b)
-  over-loses e = ⊎-elim (λ h. inr (⊎-elim (λ i. i) (λ i. absurd (no h i)) (order (price G x k) (price G x b)))) (λ h. inl h) (order (price G x b) (price G x a))
+  above-loses : aboveChord G a b k ≡ true → (price G x a ≤ price G x b) ⊎ (price G x k < price G x b)
+  above-loses e = ⊎-elim (λ h. inr (⊎-elim (λ i. i) (λ i. absurd (no h i)) (order (price G x k) (price G x b)))) (λ h. inl h) (order (price G x b) (price G x a))
     where
       no : price G x b < price G x a → price G x b ≤ price G x k → ⊥
       no h i = omega (arith, prices, on-or-above e, mul-le-mul-right (k - b) h, mul-le-mul-right (b - a) i)
 
   -- below the line: where k costs less than b, b costs less than a
-  under-wins : over G a b k ≡ false → price G x k < price G x b → price G x b < price G x a
+  under-wins : aboveChord G a b k ≡ false → price G x k < price G x b → price G x b < price G x a
   under-wins e h = ⊎-elim (λ i. i) (λ i. absurd (no i)) (order (price G x b) (price G x a))
     where
       no : price G x a ≤ price G x b → ⊥
       no i = omega (arith, prices, below e, mul-le-mul-right (k - b) i, mul-le-mul-right (b - a) h)
 
   -- below the line and no lower than a: k is no lower than b
-  pub under-upward : over G a b k ≡ false → heightOf G a ≤ heightOf G b → heightOf G b ≤ heightOf G k
+  pub under-upward : aboveChord G a b k ≡ false → heightOf G a ≤ heightOf G b → heightOf G b ≤ heightOf G k
   under-upward e h = ⊎-elim (λ i. absurd (no i)) (λ i. i) (order (heightOf G k) (heightOf G b))
     where
       no : heightOf G k < heightOf G b → ⊥
@@ -139,7 +139,7 @@ module _ (G : List ℕ) (k : ℕ) (site : List ℕ) (c : ℕ) (h : Hull G k site
             (order (price G x k) (price G x (bestSite G k x)))
 
     -- the last of the first d entries is no corner once k has come
-    pub half-over : (d : ℕ) → d ≤ c → 1 < d → over G (getD site (d - 2) 0) (getD site (d - 1) 0) k ≡ true → Half G k site d → Half G k site (d - 1)
+    pub half-over : (d : ℕ) → d ≤ c → 1 < d → aboveChord G (getD site (d - 2) 0) (getD site (d - 1) 0) k ≡ true → Half G k site d → Half G k site (d - 1)
     half-over d l m e = half-less G k site d (omega arith) never
       where
         before : getD site (d - 2) 0 < getD site (d - 1) 0
@@ -151,7 +151,7 @@ module _ (G : List ℕ) (k : ℕ) (site : List ℕ) (c : ℕ) (h : Hull G k site
             ⊎-elim
             (λ p. beaten G (k + 1) x _ (getD site (d - 2) 0) (omega arith) (omega (arith, before, b)) (h .real (d - 2) (omega arith)) (inl (before, p)))
             (λ p. beaten G (k + 1) x _ k (omega arith) (omega arith) i (inr p))
-            (over-loses G x (getD site (d - 2) 0) (getD site (d - 1) 0) k before b e)
+            (above-loses G x (getD site (d - 2) 0) (getD site (d - 1) 0) k before b e)
 
     -- the first entry lies above k
     pub half-lower : 0 < c → heightOf G k < heightOf G (getD site 0 0) → Half G k site 1 → Half G k site 0
@@ -205,7 +205,7 @@ module _ (G : List ℕ) (k : ℕ) (site : List ℕ) (count c : ℕ) (h : Hull G 
         real = each (λ s. Site G s) (λ j l. h .real j (omega (arith, p .fewer))) i;
         rising = pairs (λ a b. a < b) (λ j l. h .rising j (omega (arith, p .fewer))) (λ l. h .seen (c - 1) (omega (arith, p .fewer)));
         upward = pairs (λ a b. heightOf G a ≤ heightOf G b) (λ j l. h .upward j (omega (arith, p .fewer))) (p .upward);
-        convex = triples (λ a b d. over G a b d ≡ false) (λ j l. h .convex j (omega (arith, p .fewer))) (p .convex);
+        convex = triples (λ a b d. aboveChord G a b d ≡ false) (λ j l. h .convex j (omega (arith, p .fewer))) (p .convex);
         holds = λ x. inr (on-top x (p .half x));
       }
 
@@ -327,7 +327,7 @@ module _ (G : List ℕ) (n : ℕ) (site : List ℕ) (count : ℕ) (start : List 
         nobody m (inr l) = omega (arith, m .below)
     all-held (suc j) e = held j (omega arith) (last j e)
 
-  pub hull-built : Built G n site start c
+  pub hull-built : Envelope G n site start c
   hull-built =
       record {
         entries = record { few = omega (arith, h .few, s .fewer); seen = λ j l. h .seen j (omega (arith, s .fewer)); real = λ j l. h .real j (omega (arith, s .fewer)) };

@@ -14,7 +14,7 @@ use lib.ListN.{getD, set, length}
 use lib.Seq.{getD-set-same, getD-set-other}
 use Rattle.envelope.specs.Best.{noCost, Site}
 use Rattle.envelope.specs.BestLaws.{order}
-use Rattle.envelope.specs.Hull.{heightOf, over, crossing, Bare, Hull, Half, Popped, Started}
+use Rattle.envelope.specs.Hull.{heightOf, aboveChord, crossing, Bare, Hull, Half, Popped, Started}
 use Rattle.envelope.proofs.HullLaws.{under-upward, half-all, half-over, half-lower, hull-none, hull-skip, hull-push}
 
 -- a height times a distance
@@ -43,15 +43,15 @@ module _ {G : List ℕ} {n k : ℕ} {site : List ℕ} {count : ℕ} (room : Room
           let t = p .1 .0 (omega arith) in
           (omega (arith, t, r), (omega (arith, t, h .seen (c - 1) (omega arith)), (omega (arith, room), omega (arith, room))))
 
-      test : {t f : Bool} → t ≡ over G a b k → t ≡ f → over G (getD site (c - 2) 0) (getD site (c - 1) 0) k ≡ f
+      test : {t f : Bool} → t ≡ aboveChord G a b k → t ≡ f → aboveChord G (getD site (c - 2) 0) (getD site (c - 1) 0) k ≡ f
       test q r = rw (e, p .1 .0 (omega arith)) at (sym q ∙ r)
 
-      pub popping-on : {t : Bool} → Site G k → t ≡ over G a b k → t ≡ true → Popping G k site count (c - 1) a
+      pub popping-on : {t : Bool} → Site G k → t ≡ aboveChord G a b k → t ≡ true → Popping G k site count (c - 1) a
       popping-on i q r =
           let d : c - 1 - 1 ≡ c - 2 = omega arith in
           (omega arith, (λ z. e ∙ rw d, half-over G k site count h (omega (arith, room)) i c (p .0) m (test q r) (p .1 .1)))
 
-      pub popping-corner : {t : Bool} → t ≡ over G a b k → t ≡ false → Popped G k site count c
+      pub popping-corner : {t : Bool} → t ≡ aboveChord G a b k → t ≡ false → Popped G k site count c
       popping-corner q r = record { fewer = p .0; half = p .1 .1; upward = λ z. up; convex = λ z. test q r }
         where
           up : heightOf G (getD site (c - 1) 0) ≤ heightOf G k

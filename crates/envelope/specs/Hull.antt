@@ -15,8 +15,8 @@ unfoldable pub heightOf : List ℕ → ℕ → ℕ
 heightOf G k = k * k + getD G k 0
 
 -- of three places from the left, the point of b lies on or above the line through those of a and k
-unfoldable pub over : List ℕ → (a b k : ℕ) → Bool
-over G a b k = leb (heightOf G k * (b - a) + heightOf G a * (k - b)) (heightOf G b * (k - a))
+unfoldable pub aboveChord : List ℕ → (a b k : ℕ) → Bool
+aboveChord G a b k = leb (heightOf G k * (b - a) + heightOf G a * (k - b)) (heightOf G b * (k - a))
 
 -- the first place where the later site k costs less than s, whose point is no higher
 unfoldable pub crossing : List ℕ → (s k : ℕ) → ℕ
@@ -40,7 +40,7 @@ pub record Hull (G : List ℕ) (k : ℕ) (site : List ℕ) (c : ℕ) : Type 0 wh
   pub real : (j : ℕ) → j < c → Site G (getD site j 0)
   pub rising : (j : ℕ) → suc j < c → getD site j 0 < getD site (suc j) 0
   pub upward : (j : ℕ) → suc j < c → heightOf G (getD site j 0) ≤ heightOf G (getD site (suc j) 0)
-  pub convex : (j : ℕ) → suc (suc j) < c → over G (getD site j 0) (getD site (suc j) 0) (getD site (suc (suc j)) 0) ≡ false
+  pub convex : (j : ℕ) → suc (suc j) < c → aboveChord G (getD site j 0) (getD site (suc j) 0) (getD site (suc (suc j)) 0) ≡ false
   pub holds : (x : ℕ) → (bestSite G k x ≡ noSite) ⊎ Among site c (bestSite G k x)
 
 -- once the site k has come, the best is k or one of the first c entries
@@ -52,7 +52,7 @@ pub record Popped (G : List ℕ) (k : ℕ) (site : List ℕ) (count c : ℕ) : T
   pub fewer : c ≤ count
   pub half : Half G k site c
   pub upward : 0 < c → heightOf G (getD site (c - 1) 0) ≤ heightOf G k
-  pub convex : 1 < c → over G (getD site (c - 2) 0) (getD site (c - 1) 0) k ≡ false
+  pub convex : 1 < c → aboveChord G (getD site (c - 2) 0) (getD site (c - 1) 0) k ≡ false
 
 -- the first c of the hull's entries have their starts; the next would start beyond the line
 pub record Started (G : List ℕ) (n : ℕ) (site : List ℕ) (count : ℕ) (start : List ℕ) (c : ℕ) : Type 0 where

@@ -21,6 +21,6 @@ pub record Entries (G : List ℕ) (n : ℕ) (site : List ℕ) (c : ℕ) : Type 0
   pub real : (j : ℕ) → j < c → Site G (getD site j 0)
 
 -- the envelope of the line's sites: every place is held by the best of them
-pub record Built (G : List ℕ) (n : ℕ) (site start : List ℕ) (c : ℕ) : Type 0 where
+pub record Envelope (G : List ℕ) (n : ℕ) (site start : List ℕ) (c : ℕ) : Type 0 where
   pub entries : Entries G n site c
   pub holds : (x : ℕ) → x < n → holder site start c x ≡ bestSite G n x

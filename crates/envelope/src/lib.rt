@@ -12,8 +12,8 @@ ghost use mathlib.Core.Bool.{true};
 ghost use Prim.Native.Nat.{_+_, _-_, _*_, _/_, _<_, _≤_};
 ghost use lib.ListN.{length, getD};
 ghost use Rattle.envelope.specs.Best.{Site, Line};
-ghost use Rattle.envelope.specs.Stack.{Built};
-ghost use Rattle.envelope.specs.Hull.{heightOf, over, crossing, Bare, Hull, Popped, Started};
+ghost use Rattle.envelope.specs.Stack.{Envelope};
+ghost use Rattle.envelope.specs.Hull.{heightOf, aboveChord, crossing, Bare, Hull, Popped, Started};
 
 // Two places multiplied.
 fn times(a: usize, b: usize) -> usize
@@ -32,7 +32,7 @@ fn scaled(v: usize, d: usize) -> usize
 }
 
 // An element of a working slice.
-pub fn place(s: &[u16], i: usize) -> usize
+pub fn element(s: &[u16], i: usize) -> usize
     requires { ⌜ i < length (now s) ⌝ }
     ensures { λ r. ⌜ r ≡ getD (now (s .entry)) i 0 ⌝ }
 {
@@ -56,9 +56,9 @@ fn height(cost: &[u32], k: usize) -> usize
 }
 
 // Whether the point of b lies on or above the line through those of a and k.
-fn covers(cost: &[u32], a: usize, b: usize, k: usize) -> bool
+fn lies_above(cost: &[u32], a: usize, b: usize, k: usize) -> bool
     requires { ⌜ (a < b) × ((b < k) × ((k < 2048) × (k < length (now cost)))) ⌝ }
-    ensures { λ r. ⌜ r ≡ over (now (cost .entry)) a b k ⌝ }
+    ensures { λ r. ⌜ r ≡ aboveChord (now (cost .entry)) a b k ⌝ }
 {
     let left = scaled(height(cost, a), k - b);
     let right = scaled(height(cost, k), b - a);
@@ -75,8 +75,8 @@ fn popped(cost: &[u32], n: usize, k: usize, site: &[u16], count: usize, top: usi
     let mut c = count;
     let mut b = top;
     while 1 < c {
-        let a = place(site, c - 2);
-        if covers(cost, a, b, k) {
+        let a = element(site, c - 2);
+        if lies_above(cost, a, b, k) {
             c -= 1;
             b = a;
         } else {
@@ -180,8 +180,8 @@ fn start_of(cost: &[u32], n: usize, site: &[u16], count: usize, j: usize) -> usi
     requires { ⌜ Hull (now cost) n (now site) count × (j + 1 < count) ⌝ }
     ensures { λ r. ⌜ r ≡ crossing (now (cost .entry)) (getD (now (site .entry)) j 0) (getD (now (site .entry)) (j + 1) 0) ⌝ }
 {
-    let s = place(site, j);
-    let k = place(site, j + 1);
+    let s = element(site, j);
+    let k = element(site, j + 1);
     cross(s, height(cost, s), k, height(cost, k))
 }
 
@@ -210,7 +210,7 @@ fn starts(cost: &[u32], n: usize, site: &[u16], start: &mut [u16], count: usize)
 // The envelope of all sites; the number of entries.
 pub fn build(cost: &[u32], n: usize, site: &mut [u16], start: &mut [u16]) -> usize
     requires { ⌜ Line (now cost) n (now site) (now start) ⌝ }
-    ensures { λ r. ⌜ Built (now (cost .entry)) n (now (site .exit)) (now (start .exit)) r ⌝ }
+    ensures { λ r. ⌜ Envelope (now (cost .entry)) n (now (site .exit)) (now (start .exit)) r ⌝ }
 {
     let count = hull(cost, n, site);
     starts(cost, n, site, start, count)

@@ -1,4 +1,4 @@
--- The signed numbers of a row, once: what `costOf` makes of a way by the test for the mark, and that it and the way from column to column fit.
+-- The signed numbers of a row, once: what `wayCost` makes of a way by the test for the mark, and that it and the way from column to column fit.
 -- Assumes nothing.
 use mathlib.Core.Path.{_≡_, refl}
 use mathlib.Core.Bool.{Bool, true, false, cond}
@@ -12,7 +12,7 @@ use mir.Val.{SFits}
 use Rattle.raster.specs.Vector.{Short, isMark}
 use Rattle.raster.proofs.Signed.{widen, short-wide}
 use Rattle.envelope.specs.Best.{noCost}
-use Rattle.exact.specs.Rows.{costOf}
+use Rattle.exact.specs.Rows.{wayCost}
 
 -- 32 bits hold a component
 pub short-fits : (z : ℤ) → Short z → SFits w32 z
@@ -20,10 +20,10 @@ short-fits z s = widen (record { sfits = s })
 
 -- ---- what a column costs
 
-pub cost-none : (v : ℤ) → isMark v ≡ true → noCost ≡ costOf v
+pub cost-none : (v : ℤ) → isMark v ≡ true → noCost ≡ wayCost v
 cost-none v e = rw e
 
-pub cost-some : (v : ℤ) → isMark v ≡ false → natAbs v * natAbs v ≡ costOf v
+pub cost-some : (v : ℤ) → isMark v ≡ false → natAbs v * natAbs v ≡ wayCost v
 cost-some v e = rw e
 
 pub square-fits : (v : ℤ) → Short v → natAbs v * natAbs v ≤ 1073741824

@@ -10,7 +10,7 @@ use lib.IntN.{ℤ, pos, negℤ, _+ℤ_, _-ℤ_, +ℤ-assoc, negℤ-+ℤ, +ℤ-ne
 use lib.ListN.{getD, length}
 use Rattle.raster.specs.Map.{dxAt, dyAt}
 use Rattle.envelope.specs.Best.{bestSite, Line}
-use Rattle.exact.specs.Rows.{costOf, costsOf, across, along, Written, part, CopperRun, CopperEnd, Next}
+use Rattle.exact.specs.Rows.{wayCost, costsOf, across, siteWay, Written, part, CopperRun, CopperEnd, Next}
 use Rattle.exact.proofs.Prices.{costs-at, priced-best}
 use Rattle.exact.proofs.Runs.{across-site, along-site, run-none, run-same, run-over}
 use Rattle.exact.proofs.Split.{copper-each, Part, part-at, Same, best-part, best-copper}
@@ -38,7 +38,7 @@ way-same lo b x =
 
 -- copper costs nothing
 copper-cost : (ways : List ℤ) (w k : ℕ) → k < w → getD ways k (pos 0) ≡ pos 0 → getD (costsOf ways w) k 0 ≡ 0
-copper-cost ways w k l e = costs-at ways w k l ∙ ap costOf e
+copper-cost ways w k l e = costs-at ways w k l ∙ ap wayCost e
 
 -- a part that is written as a row of its own is written as the row asks
 part-solved : {base w lo hi : ℕ} (ways : List ℤ) {m o : List ℤ} → w ≤ 2048 → lo ≤ hi → Part (costsOf ways w) w lo hi
@@ -48,13 +48,13 @@ part-solved {base} {w} {lo} {hi} ways {m} {o} few order p r = record {
   long = r .long;
   dx = λ x i l. at x i l .0;
   dy = λ x i l. at x i l .1;
-  under = λ q i. r .under q (omega arith);
-  over = λ q i. r .over q (omega arith);
+  low-kept = λ q i. r .low-kept q (omega arith);
+  high-kept = λ q i. r .high-kept q (omega arith);
 }
   where
     -- the vector to the best site of the part is the one to that of the row
     vector : (j : ℕ) {b c : ℕ} → Same lo hi b c
-        → (across b j ≡ across c (lo + j)) × (along (λ k. getD (part lo hi ways) k (pos 0)) b ≡ along (λ k. getD ways k (pos 0)) c)
+        → (across b j ≡ across c (lo + j)) × (siteWay (λ k. getD (part lo hi ways) k (pos 0)) b ≡ siteWay (λ k. getD ways k (pos 0)) c)
     vector j (inl (e, f)) = rw (e, f) (refl, refl)
     vector j {b} (inr (l, e)) =
         let i : b < 2048 = omega (arith, p .on) in
@@ -68,16 +68,16 @@ part-solved {base} {w} {lo} {hi} ways {m} {o} few order p r = record {
     own : (j : ℕ) → bestSite (costsOf (part lo hi ways) (hi - lo)) (hi - lo) j ≡ bestSite (part lo hi (costsOf ways w)) (hi - lo) j
     own j =
         priced-best (part lo hi ways) (part lo hi (costsOf ways w)) (hi - lo) j (omega (arith, p .on))
-        (λ k l. part-at lo hi (costsOf ways w) k 0 l ∙ costs-at ways w (lo + k) (omega (arith, p .on)) ∙ ap costOf (sym (part-at lo hi ways k (pos 0) l)))
+        (λ k l. part-at lo hi (costsOf ways w) k 0 l ∙ costs-at ways w (lo + k) (omega (arith, p .on)) ∙ ap wayCost (sym (part-at lo hi ways k (pos 0) l)))
 
     pixel : (j : ℕ) → j < hi - lo
         → (dxAt o (base + lo + j) ≡ across (bestSite (costsOf ways w) w (lo + j)) (lo + j))
-        × (dyAt o (base + lo + j) ≡ along (λ b. getD ways b (pos 0)) (bestSite (costsOf ways w) w (lo + j)))
+        × (dyAt o (base + lo + j) ≡ siteWay (λ b. getD ways b (pos 0)) (bestSite (costsOf ways w) w (lo + j)))
     pixel j l =
         let v = rw (← own j) at (vector j (best-part (costsOf ways w) w lo hi few p j l)) in
         (r .dx j (omega arith) l ∙ v .0, r .dy j (omega arith) l ∙ v .1)
 
-    at : (x : ℕ) → lo ≤ x → x < hi → (dxAt o (base + x) ≡ across (bestSite (costsOf ways w) w x) x) × (dyAt o (base + x) ≡ along (λ b. getD ways b (pos 0)) (bestSite (costsOf ways w) w x))
+    at : (x : ℕ) → lo ≤ x → x < hi → (dxAt o (base + x) ≡ across (bestSite (costsOf ways w) w x) x) × (dyAt o (base + x) ≡ siteWay (λ b. getD ways b (pos 0)) (bestSite (costsOf ways w) w x))
     at x i l =
         let e : lo + (x - lo) ≡ x = omega arith in
         let f : base + lo + (x - lo) ≡ base + x = omega arith in
@@ -91,7 +91,7 @@ copper-solved : {base w from to : ℕ} (ways : List ℤ) {m o : List ℤ} → w 
 copper-solved {w = w} ways few c r = run-same r (λ x i j.
     let z = c .copper x i j in
     let l : x < w = omega (arith, c .on) in
-    (best-copper (costsOf ways w) w x few l (copper-cost ways w x l z), ap (λ (t : ℤ). along (λ _. t) x) (sym z)))
+    (best-copper (costsOf ways w) w x few l (copper-cost ways w x l z), ap (λ (t : ℤ). siteWay (λ _. t) x) (sym z)))
 
 -- a part, and the copper after it
 pub next-solved : {base w lo done x hi e : ℕ} (ways : List ℤ) {m n o : List ℤ} → w ≤ 2048

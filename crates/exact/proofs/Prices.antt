@@ -11,7 +11,7 @@ use Rattle.raster.specs.Pixels.{tabulate}
 use Rattle.raster.specs.PixelsLaws.{tabulate-at, tabulate-length}
 use Rattle.envelope.specs.Best.{noSite, better, bestSite}
 use Rattle.envelope.specs.BestLaws.{best-found}
-use Rattle.exact.specs.Rows.{costOf, along, wayAt, rowCosts, costsOf, Written}
+use Rattle.exact.specs.Rows.{wayCost, siteWay, wayAt, rowCosts, costsOf, Written}
 use Rattle.exact.proofs.Runs.{run-same}
 
 -- what stands in a working row whose first n numbers were written
@@ -35,20 +35,20 @@ module _ (G H : List ℕ) (x : ℕ) where
       (λ b. rw (f, same (bestSite G k x) (omega (arith, b .below))))
       (best-found G k x (omega arith)))
 
-pub row-cost : (m : List ℤ) (base w j : ℕ) → j < w → getD (rowCosts m base w) j 0 ≡ costOf (wayAt m base j)
+pub row-cost : (m : List ℤ) (base w j : ℕ) → j < w → getD (rowCosts m base w) j 0 ≡ wayCost (wayAt m base j)
 unfolding rowCosts
 row-cost m base w j l = tabulate-at w _ j 0 l
 
-pub costs-at : (ways : List ℤ) (w j : ℕ) → j < w → getD (costsOf ways w) j 0 ≡ costOf (getD ways j (pos 0))
+pub costs-at : (ways : List ℤ) (w j : ℕ) → j < w → getD (costsOf ways w) j 0 ≡ wayCost (getD ways j (pos 0))
 unfolding costsOf
 costs-at ways w j l = tabulate-at w _ j 0 l
 
-pub priced-at : (ways : List ℤ) (n : ℕ) (rest cost : List ℕ) → cost ≡ costsOf ways n ++ rest → (k : ℕ) → k < n → getD cost k 0 ≡ costOf (getD ways k (pos 0))
+pub priced-at : (ways : List ℤ) (n : ℕ) (rest cost : List ℕ) → cost ≡ costsOf ways n ++ rest → (k : ℕ) → k < n → getD cost k 0 ≡ wayCost (getD ways k (pos 0))
 unfolding costsOf
 priced-at ways n rest cost e = tabulated 0 n _ rest cost e
 
 -- costs that stand in a working row are as good as the list of them
-pub priced-best : (ways : List ℤ) (cost : List ℕ) (w x : ℕ) → w ≤ 2048 → ((k : ℕ) → k < w → getD cost k 0 ≡ costOf (getD ways k (pos 0)))
+pub priced-best : (ways : List ℤ) (cost : List ℕ) (w x : ℕ) → w ≤ 2048 → ((k : ℕ) → k < w → getD cost k 0 ≡ wayCost (getD ways k (pos 0)))
     → bestSite (costsOf ways w) w x ≡ bestSite cost w x
 priced-best ways cost w x few p = best-same (costsOf ways w) cost x w (omega arith) (λ j k. costs-at ways w j k ∙ sym (p j k))
 
@@ -58,7 +58,7 @@ pub row-solved : (ways : List ℤ) {m : List ℤ} {base w : ℕ} {o : List ℤ} 
 row-solved ways {m} {base} {w} few p r = run-same r (λ x h l. (best x, way x))
   where
     best : (x : ℕ) → bestSite (rowCosts m base w) w x ≡ bestSite (costsOf ways w) w x
-    best x = best-same (rowCosts m base w) (costsOf ways w) x w (omega arith) (λ j k. row-cost m base w j k ∙ ap costOf (sym (p j k)) ∙ sym (costs-at ways w j k))
+    best x = best-same (rowCosts m base w) (costsOf ways w) x w (omega arith) (λ j k. row-cost m base w j k ∙ ap wayCost (sym (p j k)) ∙ sym (costs-at ways w j k))
 
-    way : (x : ℕ) → along (λ k. getD ways k (pos 0)) (bestSite (costsOf ways w) w x) ≡ along (wayAt m base) (bestSite (costsOf ways w) w x)
+    way : (x : ℕ) → siteWay (λ k. getD ways k (pos 0)) (bestSite (costsOf ways w) w x) ≡ siteWay (wayAt m base) (bestSite (costsOf ways w) w x)
     way x = ⊎-elim (λ n. rw (n .0)) (λ s. rw (p _ (s .below))) (best-found (costsOf ways w) w x (omega arith))

@@ -11,18 +11,18 @@ use borrow.Author.Tests.{ne-eqb}
 use Rattle.raster.specs.Map.{Inside, dxAt, dyAt, put}
 use Rattle.raster.specs.MapLaws.{put-length, put-dx, put-dy, put-dx-other, put-dy-other}
 use Rattle.envelope.specs.Best.{noSite}
-use Rattle.exact.specs.Rows.{across, along, Written}
+use Rattle.exact.specs.Rows.{across, siteWay, Written}
 
 -- a column below 2,048 is one, not none
 module _ (s : ℕ) (few : s < 2048) where
   pub across-site : (x : ℕ) → pos s -ℤ pos x ≡ across s x
   across-site x = rw (ne-eqb s noSite (omega arith))
 
-  pub along-site : (v : ℕ → ℤ) → v s ≡ along v s
+  pub along-site : (v : ℕ → ℤ) → v s ≡ siteWay v s
   along-site v = rw (ne-eqb s noSite (omega arith))
 
 -- and the vector to itself is none at all
-pub across-self : (x : ℕ) → x < 2048 → (pos 0 ≡ across x x) × (pos 0 ≡ along (λ b. pos 0) x)
+pub across-self : (x : ℕ) → x < 2048 → (pos 0 ≡ across x x) × (pos 0 ≡ siteWay (λ b. pos 0) x)
 across-self x few = (sym (+ℤ-invr (pos x)) ∙ across-site x few x, along-site x few (λ b. pos 0))
 
 -- what a write and the next one leave alone, both together do
@@ -41,12 +41,12 @@ module _ {base from : ℕ} {v : ℕ → ℤ} {best : ℕ → ℕ} {m : List ℤ}
     long = refl;
     dx = λ x h l. absurd (omega arith);
     dy = λ x h l. absurd (omega arith);
-    under = λ p l. (refl, refl);
-    over = λ p l. (refl, refl);
+    low-kept = λ p l. (refl, refl);
+    high-kept = λ p l. (refl, refl);
   }
 
   pub run-more : {x : ℕ} {dx dy : ℤ} {n o : List ℤ} → Written base from x v best m n → from ≤ x → Inside (base + x) n
-      → dx ≡ across (best x) x → dy ≡ along v (best x) → o ≡ put (base + x) dx dy n → Written base from (x + 1) v best m o
+      → dx ≡ across (best x) x → dy ≡ siteWay v (best x) → o ≡ put (base + x) dx dy n → Written base from (x + 1) v best m o
   run-more {x} {n = n} w h i f g e = rw (e, f, g) (record {
     long = put-length (base + x) _ _ n ∙ w .long;
     dx = λ z l k. elim (ℕ-discrete z x) [
@@ -57,8 +57,8 @@ module _ {base from : ℕ} {v : ℕ → ℤ} {best : ℕ → ℕ} {m : List ℤ}
       | yes q ↦ rw q (put-dy (base + x) _ _ n i)
       | no q ↦ put-other (base + x) _ _ n (base + z) (omega arith) .1 ∙ w .dy z l (omega arith)
     ];
-    under = λ p l. chain (put-other (base + x) _ _ n p (omega arith)) (w .under p l);
-    over = λ p l. chain (put-other (base + x) _ _ n p (omega arith)) (w .over p (omega arith));
+    low-kept = λ p l. chain (put-other (base + x) _ _ n p (omega arith)) (w .low-kept p l);
+    high-kept = λ p l. chain (put-other (base + x) _ _ n p (omega arith)) (w .high-kept p (omega arith));
   })
 
   -- an empty run writes nothing
@@ -72,20 +72,20 @@ module _ {base from : ℕ} {v : ℕ → ℤ} {best : ℕ → ℕ} {m : List ℤ}
           long = f .long;
           dx = λ z i j. absurd (omega arith);
           dy = λ z i j. absurd (omega arith);
-          under = f .under;
-          over = λ p i. elim (decLt p (base + from)) [ yes j ↦ f .under p j | no j ↦ f .over p (omega arith) ];
+          low-kept = f .low-kept;
+          high-kept = λ p i. elim (decLt p (base + from)) [ yes j ↦ f .low-kept p j | no j ↦ f .high-kept p (omega arith) ];
         }
   ]
 
 -- a run that goes to the columns that it should
 pub run-same : {base a b : ℕ} {u v : ℕ → ℤ} {way best : ℕ → ℕ} {m o : List ℤ} → Written base a b u way m o
-    → ((x : ℕ) → a ≤ x → x < b → (best x ≡ way x) × (along u (way x) ≡ along v (way x))) → Written base a b v best m o
+    → ((x : ℕ) → a ≤ x → x < b → (best x ≡ way x) × (siteWay u (way x) ≡ siteWay v (way x))) → Written base a b v best m o
 run-same w same = record {
   long = w .long;
   dx = λ x i j. rw (same x i j .0) (w .dx x i j);
   dy = λ x i j. rw (same x i j .0, ← same x i j .1) (w .dy x i j);
-  under = w .under;
-  over = w .over;
+  low-kept = w .low-kept;
+  high-kept = w .high-kept;
 }
 
 -- two runs, the later one over the end of the earlier one
@@ -94,31 +94,31 @@ pub run-over : {base a b c d : ℕ} {v : ℕ → ℤ} {best : ℕ → ℕ} {m o 
 run-over {base} {a} {b} {c} {d} h k l earlier later = record {
   long = later .long ∙ earlier .long;
   dx = λ x i j. elim (decLt x b) [
-    | yes e ↦ later .under (base + x) (omega arith) .0 ∙ earlier .dx x i (omega arith)
+    | yes e ↦ later .low-kept (base + x) (omega arith) .0 ∙ earlier .dx x i (omega arith)
     | no e ↦ later .dx x (omega arith) j
   ];
   dy = λ x i j. elim (decLt x b) [
-    | yes e ↦ later .under (base + x) (omega arith) .1 ∙ earlier .dy x i (omega arith)
+    | yes e ↦ later .low-kept (base + x) (omega arith) .1 ∙ earlier .dy x i (omega arith)
     | no e ↦ later .dy x (omega arith) j
   ];
-  under = λ p i. chain (later .under p (omega arith)) (earlier .under p i);
-  over = λ p i. chain (later .over p i) (earlier .over p (omega arith));
+  low-kept = λ p i. chain (later .low-kept p (omega arith)) (earlier .low-kept p i);
+  high-kept = λ p i. chain (later .high-kept p i) (earlier .high-kept p (omega arith));
 }
 
 -- two runs that meet: the later one was written first, and the earlier one says what it should
 pub run-join : {base a b n : ℕ} {u v : ℕ → ℤ} {way best : ℕ → ℕ} {m o q : List ℤ} → a ≤ b → b ≤ n
     → Written base b n v best m o → Written base a b u way o q
-    → ((x : ℕ) → a ≤ x → x < b → (best x ≡ way x) × (along u (way x) ≡ along v (way x))) → Written base a n v best m q
+    → ((x : ℕ) → a ≤ x → x < b → (best x ≡ way x) × (siteWay u (way x) ≡ siteWay v (way x))) → Written base a n v best m q
 run-join {base} {a} {b} {n} {u} {v} {way} {best} {m} {o} {q} h k later earlier same = record {
   long = earlier .long ∙ later .long;
   dx = λ x i j. elim (decLt x b) [
     | yes l ↦ rw (same x i l .0) (earlier .dx x i l)
-    | no l ↦ earlier .over (base + x) (omega arith) .0 ∙ later .dx x (omega arith) j
+    | no l ↦ earlier .high-kept (base + x) (omega arith) .0 ∙ later .dx x (omega arith) j
   ];
   dy = λ x i j. elim (decLt x b) [
     | yes l ↦ rw (same x i l .0, ← same x i l .1) (earlier .dy x i l)
-    | no l ↦ earlier .over (base + x) (omega arith) .1 ∙ later .dy x (omega arith) j
+    | no l ↦ earlier .high-kept (base + x) (omega arith) .1 ∙ later .dy x (omega arith) j
   ];
-  under = λ p i. chain (earlier .under p i) (later .under p (omega arith));
-  over = λ p i. chain (earlier .over p (omega arith)) (later .over p i);
+  low-kept = λ p i. chain (earlier .low-kept p i) (later .low-kept p (omega arith));
+  high-kept = λ p i. chain (earlier .high-kept p (omega arith)) (later .high-kept p i);
 }

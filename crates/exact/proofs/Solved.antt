@@ -11,13 +11,13 @@ use Rattle.raster.specs.PixelsLaws.{tabulate-at}
 use Rattle.columns.specs.Column.{wayOf}
 use Rattle.columns.proofs.Foot.{foot}
 use Rattle.exact.specs.Nearest.{exactMap}
-use Rattle.exact.specs.Rows.{costOf, wayAt, rowCosts, Solved}
+use Rattle.exact.specs.Rows.{wayCost, wayAt, rowCosts, Solved}
 use Rattle.exact.proofs.Theorems.{only-exact}
 use Rattle.exact.proofs.Columns.{site-exact}
 
 module _ (copper : Mask) (w h : ℕ) (wide : w ≤ maxSide) (tall : h ≤ maxSide) (m : List ℤ)
     (ways : (x y : ℕ) → x < w → y < h → getD m (index w x y) (pos 0) ≡ wayOf copper h x y) where
-  costs : (y k : ℕ) → k < w → getD (rowCosts m (y * w) w) k 0 ≡ costOf (wayAt m (y * w) k)
+  costs : (y k : ℕ) → k < w → getD (rowCosts m (y * w) w) k 0 ≡ wayCost (wayAt m (y * w) k)
   unfolding rowCosts
   costs y k l = tabulate-at w _ k 0 l
 

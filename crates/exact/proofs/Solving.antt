@@ -14,7 +14,7 @@ use Rattle.raster.specs.Map.{dxAt, dyAt}
 use Rattle.raster.specs.Pixels.{index}
 use Rattle.envelope.specs.Best.{bestSite}
 use Rattle.envelope.specs.BestLaws.{best-found}
-use Rattle.exact.specs.Rows.{costOf, wayAt, rowCosts, across, along, Written, Solved}
+use Rattle.exact.specs.Rows.{wayCost, wayAt, rowCosts, across, siteWay, Written, Solved}
 use Rattle.exact.proofs.Prices.{best-same, row-cost}
 
 -- pixels that are left alone, number by number
@@ -30,8 +30,8 @@ pub record SolvedFrom (w h : ℕ) (before : List ℤ) (y : ℕ) (after : List �
   pub on : y ≤ h
   pub long : length after ≡ length before
   pub dx : (x z : ℕ) → x < w → y ≤ z → z < h → dxAt after (index w x z) ≡ across (bestSite (rowCosts before (z * w) w) w x) x
-  pub dy : (x z : ℕ) → x < w → y ≤ z → z < h → dyAt after (index w x z) ≡ along (wayAt before (z * w)) (bestSite (rowCosts before (z * w) w) w x)
-  pub under : (i : ℕ) → i < 2 * (y * w) → getD after i (pos 0) ≡ getD before i (pos 0)
+  pub dy : (x z : ℕ) → x < w → y ≤ z → z < h → dyAt after (index w x z) ≡ siteWay (wayAt before (z * w)) (bestSite (rowCosts before (z * w) w) w x)
+  pub low-kept : (i : ℕ) → i < 2 * (y * w) → getD after i (pos 0) ≡ getD before i (pos 0)
 
 module _ {w h : ℕ} {m : List ℤ} where
   pub solved-none : SolvedFrom w h m h m
@@ -40,7 +40,7 @@ module _ {w h : ℕ} {m : List ℤ} where
     long = refl;
     dx = λ x z a b c. absurd (omega arith);
     dy = λ x z a b c. absurd (omega arith);
-    under = λ i l. refl;
+    low-kept = λ i l. refl;
   }
 
   module _ {y : ℕ} {n : List ℤ} (s : SolvedFrom w h m y n) where
@@ -53,26 +53,26 @@ module _ {w h : ℕ} {m : List ℤ} where
       on = omega (arith, s .on);
       long = r .long ∙ s .long;
       dx = λ x a i j k. elim (decLt z a) [
-        | yes l ↦ r .over (index w x a) (omega (arith, mul-le-mul-right w l)) .0 ∙ s .dx x a i (omega arith) k
+        | yes l ↦ r .high-kept (index w x a) (omega (arith, mul-le-mul-right w l)) .0 ∙ s .dx x a i (omega arith) k
         | no l ↦ let e : a ≡ z = omega arith in rw e (r .dx x (omega arith) i ∙ ap (λ (b : ℕ). across b x) (best x))
       ];
       dy = λ x a i j k. elim (decLt z a) [
-        | yes l ↦ r .over (index w x a) (omega (arith, mul-le-mul-right w l)) .1 ∙ s .dy x a i (omega arith) k
-        | no l ↦ let e : a ≡ z = omega arith in rw e (r .dy x (omega arith) i ∙ ap (along (wayAt n (z * w))) (best x) ∙ ways x)
+        | yes l ↦ r .high-kept (index w x a) (omega (arith, mul-le-mul-right w l)) .1 ∙ s .dy x a i (omega arith) k
+        | no l ↦ let e : a ≡ z = omega arith in rw e (r .dy x (omega arith) i ∙ ap (siteWay (wayAt n (z * w))) (best x) ∙ ways x)
       ];
-      under = λ i l. numbers (z * w) n o (λ p k. r .under p (omega arith)) i l ∙ s .under i (omega (arith, rows));
+      low-kept = λ i l. numbers (z * w) n o (λ p k. r .low-kept p (omega arith)) i l ∙ s .low-kept i (omega (arith, rows));
     }
       where
         rows : y * w ≡ z * w + w
         rows = rw next (omega arith)
 
         way : (k : ℕ) → k < w → wayAt n (z * w) k ≡ wayAt m (z * w) k
-        way k l = s .under (z * w + k) (omega (arith, rows))
+        way k l = s .low-kept (z * w + k) (omega (arith, rows))
 
         best : (x : ℕ) → bestSite (rowCosts n (z * w) w) w x ≡ bestSite (rowCosts m (z * w) w) w x
         best x =
             best-same (rowCosts n (z * w) w) (rowCosts m (z * w) w) x w (omega arith)
-            (λ j l. row-cost n (z * w) w j l ∙ ap costOf (way j l) ∙ sym (row-cost m (z * w) w j l))
+            (λ j l. row-cost n (z * w) w j l ∙ ap wayCost (way j l) ∙ sym (row-cost m (z * w) w j l))
 
-        ways : (x : ℕ) → along (wayAt n (z * w)) (bestSite (rowCosts m (z * w) w) w x) ≡ along (wayAt m (z * w)) (bestSite (rowCosts m (z * w) w) w x)
+        ways : (x : ℕ) → siteWay (wayAt n (z * w)) (bestSite (rowCosts m (z * w) w) w x) ≡ siteWay (wayAt m (z * w)) (bestSite (rowCosts m (z * w) w) w x)
         ways x = ⊎-elim (λ b. rw (b .0)) (λ b. rw (way _ (b .below))) (best-found (rowCosts m (z * w) w) w x (omega arith))

@@ -22,7 +22,7 @@ use Rattle.raster.specs.Pixels.{Mask, index}
 use Rattle.raster.specs.Vector.{size, mark, isMark, inRange, unlabelled, Target}
 use Rattle.raster.specs.VectorLaws.{range-labelled, way-ends, ends-size, target-range}
 use Rattle.raster.specs.Tests.{and-left, and-right}
-use Rattle.exact.specs.Nearest.{Nearest, Exact, to-nearest, bare-sheet, Found, nearest, toColumn, toRow, exactMap, gate}
+use Rattle.exact.specs.Nearest.{Nearest, Exact, to-nearest, bare-sheet, SearchState, nearest, toColumn, toRow, exactMap, gate}
 use Rattle.exact.proofs.Search.{Answer, no-copper, nearest-at, found}
 
 module _ (copper : Mask) (w h : ℕ) (wide : w ≤ maxSide) (tall : h ≤ maxSide) (x y : ℕ) (across : x < w) (down : y < h) where
@@ -46,7 +46,7 @@ module _ (copper : Mask) (w h : ℕ) (wide : w ≤ maxSide) (tall : h ≤ maxSid
   pub is-exact : Exact copper w h x y dx dy
   is-exact = go (found copper w h x y) dx-is dy-is
     where
-      go : {f : Found} → Answer copper w h x y f → dx ≡ toColumn x f → dy ≡ toRow y f → Exact copper w h x y dx dy
+      go : {f : SearchState} → Answer copper w h x y f → dx ≡ toColumn x f → dy ≡ toRow y f → Exact copper w h x y dx dy
       go (no-copper bare) p q = bare-sheet bare (rw (p, q))
       go (nearest-at i j n) p q = to-nearest i j n (record { column = rw p (way-ends x i); row = rw q (way-ends y j) })
 
@@ -54,7 +54,7 @@ module _ (copper : Mask) (w h : ℕ) (wide : w ≤ maxSide) (tall : h ≤ maxSid
   ends-on-copper l = go is-exact
     where
       go : Exact copper w h x y dx dy → Target copper w h x y dx dy
-      go (to-nearest i j n e) = record { column = i; row = j; metal = n .metal; ends = e }
+      go (to-nearest i j n e) = record { column = i; row = j; on-copper = n .on-copper; ends = e }
       go (bare-sheet bare u) = absurd (true≢false (sym u ∙ l))
 
   pub in-range : unlabelled dx dy ≡ false → inRange dx && inRange dy ≡ true
@@ -65,14 +65,14 @@ module _ (copper : Mask) (w h : ℕ) (wide : w ≤ maxSide) (tall : h ≤ maxSid
     where
       go : Exact copper w h x y dx dy → unlabelled dx dy ≡ false
       go (to-nearest a b n e) =
-          range-labelled dx dy (and-left (inRange dx) _ (target-range copper w h x y dx dy wide tall across down (record { column = a; row = b; metal = n .metal; ends = e })))
+          range-labelled dx dy (and-left (inRange dx) _ (target-range copper w h x y dx dy wide tall across down (record { column = a; row = b; on-copper = n .on-copper; ends = e })))
       go (bare-sheet bare u) = absurd (bare i j c)
 
   pub without-copper : ((i j : ℕ) → Copper copper w h i j → ⊥) → unlabelled dx dy ≡ true
   without-copper empty = go is-exact
     where
       go : Exact copper w h x y dx dy → unlabelled dx dy ≡ true
-      go (to-nearest a b n e) = absurd (empty a b (n .metal))
+      go (to-nearest a b n e) = absurd (empty a b (n .on-copper))
       go (bare-sheet bare u) = u
 
   pub least : (a b : ℕ) → Copper copper w h a b → size dx dy ≤ apart x y a b
@@ -93,10 +93,10 @@ module _ (copper : Mask) (w h : ℕ) (wide : w ≤ maxSide) (tall : h ≤ maxSid
 
 -- the nearest copper pixel is one pixel
 one-nearest : {copper : Mask} {w h x y i j a b : ℕ} → Nearest copper w h x y i j → Nearest copper w h x y a b → (i ≡ a) × (j ≡ b)
-one-nearest {copper} {w} {h} {x} {y} {i} {j} {a} {b} p q = go (p .first a b (q .metal) (sym e)) (q .first i j (p .metal) e)
+one-nearest {copper} {w} {h} {x} {y} {i} {j} {a} {b} p q = go (p .first a b (q .on-copper) (sym e)) (q .first i j (p .on-copper) e)
   where
     e : apart x y i j ≡ apart x y a b
-    e = omega (arith, p .least a b (q .metal), q .least i j (p .metal))
+    e = omega (arith, p .least a b (q .on-copper), q .least i j (p .on-copper))
 
     go : (i < a) ⊎ ((i ≡ a) × (j ≤ b)) → (a < i) ⊎ ((a ≡ i) × (b ≤ j)) → (i ≡ a) × (j ≡ b)
     go (inl l) (inl m) = absurd (omega arith)
@@ -118,8 +118,8 @@ pub only-exact : (copper : Mask) (w h : ℕ) (m : List ℤ) → length m ≡ 2 *
 unfolding exactMap
 only-exact copper w h m long exact-at = vectors-is w h _ _ m long (λ x y a b. go (exact-at x y a b) (found copper w h x y))
   where
-    go : {x y : ℕ} {dx dy : ℤ} {f : Found} → Exact copper w h x y dx dy → Answer copper w h x y f → (dx ≡ toColumn x f) × (dy ≡ toRow y f)
-    go (to-nearest i j n e) (no-copper bare) = absurd (bare i j (n .metal))
+    go : {x y : ℕ} {dx dy : ℤ} {f : SearchState} → Exact copper w h x y dx dy → Answer copper w h x y f → (dx ≡ toColumn x f) × (dy ≡ toRow y f)
+    go (to-nearest i j n e) (no-copper bare) = absurd (bare i j (n .on-copper))
     go {x} {y} {dx} {dy} (to-nearest i j n e) (nearest-at a b k) = let s = one-nearest n k in rw (← s .0, ← s .1) (one-way x i dx (e .column), one-way y j dy (e .row))
     go {x} {y} {dx} {dy} (bare-sheet bare u) (no-copper empty) = (one-mark dx (and-left (isMark dx) _ u), one-mark dy (and-right (isMark dx) _ u))
-    go (bare-sheet bare u) (nearest-at a b k) = absurd (bare a b (k .metal))
+    go (bare-sheet bare u) (nearest-at a b k) = absurd (bare a b (k .on-copper))

@@ -19,7 +19,7 @@ use Rattle.raster.specs.Vector.{mark, unlabelled, Ends}
 
 -- (i, j) is the nearest copper pixel of (x, y), among equals that of the least column, then the least row
 pub record Nearest (copper : Mask) (w h x y i j : ℕ) : Type 0 where
-  pub metal : Copper copper w h i j
+  pub on-copper : Copper copper w h i j
   pub least : (a b : ℕ) → Copper copper w h a b → apart x y i j ≤ apart x y a b
   pub first : (a b : ℕ) → Copper copper w h a b → apart x y a b ≡ apart x y i j → (i < a) ⊎ ((i ≡ a) × (j ≤ b))
 
@@ -31,32 +31,32 @@ pub data Exact (copper : Mask) (w h x y : ℕ) (dx dy : ℤ) : Type 0 where
 -- ---- the map
 
 -- what was found so far: nothing, or the pixel (i, j)
-pub data Found : Type 0 where
-  none : Found
-  at : (i j : ℕ) → Found
+pub data SearchState : Type 0 where
+  unfound : SearchState
+  foundAt : (i j : ℕ) → SearchState
 
 -- (i, j) is nearer to (x, y) than what was found so far
-abbrev pub nearer : (x y i j : ℕ) → Found → Bool
-nearer x y i j none = true
-nearer x y i j (at a b) = ltb (apart x y i j) (apart x y a b)
+abbrev pub nearer : (x y i j : ℕ) → SearchState → Bool
+nearer x y i j unfound = true
+nearer x y i j (foundAt a b) = ltb (apart x y i j) (apart x y a b)
 
 module _ (copper : Mask) (x y : ℕ) where
   -- a copper pixel that is nearer takes the place of what was found
-  abbrev pub visit : (i j : ℕ) → Found → Found
-  visit i j f = cond (copper i j && nearer x y i j f) (at i j) f
+  abbrev pub visit : (i j : ℕ) → SearchState → SearchState
+  visit i j f = cond (copper i j && nearer x y i j f) (foundAt i j) f
 
   -- all pixels of the sheet, by column, then row
-  unfoldable pub nearest : (w h : ℕ) → Found
-  nearest w h = ascend (λ i. ascend (visit i) h) w none
+  unfoldable pub nearest : (w h : ℕ) → SearchState
+  nearest w h = ascend (λ i. ascend (visit i) h) w unfound
 
 -- the way from x to the column that was found, from y to the row; unlabelled where nothing was
-abbrev pub toColumn : (x : ℕ) → Found → ℤ
-toColumn x none = mark
-toColumn x (at i j) = pos i -ℤ pos x
+abbrev pub toColumn : (x : ℕ) → SearchState → ℤ
+toColumn x unfound = mark
+toColumn x (foundAt i j) = pos i -ℤ pos x
 
-abbrev pub toRow : (y : ℕ) → Found → ℤ
-toRow y none = mark
-toRow y (at i j) = pos j -ℤ pos y
+abbrev pub toRow : (y : ℕ) → SearchState → ℤ
+toRow y unfound = mark
+toRow y (foundAt i j) = pos j -ℤ pos y
 
 -- the way there, at every pixel
 unfoldable pub exactMap : (copper : Mask) (w h : ℕ) → List ℤ

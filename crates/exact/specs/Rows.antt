@@ -16,34 +16,34 @@ use Rattle.columns.specs.Column.{isZero}
 -- ---- a row, whose first pixel is at base
 
 -- what a column with that way costs: its square, and no site where there is none
-abbrev pub costOf : ℤ → ℕ
-costOf v = cond (isMark v) noCost (natAbs v * natAbs v)
+abbrev pub wayCost : ℤ → ℕ
+wayCost v = cond (isMark v) noCost (natAbs v * natAbs v)
 
 -- the way of column k, and the costs of all columns
 abbrev pub wayAt : List ℤ → (base k : ℕ) → ℤ
 wayAt m base k = getD m (base + k) (pos 0)
 
 unfoldable pub rowCosts : List ℤ → (base w : ℕ) → List ℕ
-rowCosts m base w = tabulate w (λ k. costOf (wayAt m base k))
+rowCosts m base w = tabulate w (λ k. wayCost (wayAt m base k))
 
 -- the costs of the first w columns, whose ways are given
 unfoldable pub costsOf : List ℤ → (w : ℕ) → List ℕ
-costsOf ways w = tabulate w (λ k. costOf (getD ways k (pos 0)))
+costsOf ways w = tabulate w (λ k. wayCost (getD ways k (pos 0)))
 
 -- the vector to the column b (`noSite`: none), whose way is v b
 abbrev pub across : (b x : ℕ) → ℤ
 across b x = cond (eqb b noSite) mark (pos b -ℤ pos x)
 
-abbrev pub along : (v : ℕ → ℤ) (b : ℕ) → ℤ
-along v b = cond (eqb b noSite) mark (v b)
+abbrev pub siteWay : (v : ℕ → ℤ) (b : ℕ) → ℤ
+siteWay v b = cond (eqb b noSite) mark (v b)
 
 -- the pixels from base + from to base + to − 1 have the vectors to the columns that `best` names, and nothing else changes
 pub record Written (base from to : ℕ) (v : ℕ → ℤ) (best : ℕ → ℕ) (before after : List ℤ) : Type 0 where
   pub long : length after ≡ length before
   pub dx : (x : ℕ) → from ≤ x → x < to → dxAt after (base + x) ≡ across (best x) x
-  pub dy : (x : ℕ) → from ≤ x → x < to → dyAt after (base + x) ≡ along v (best x)
-  pub under : (p : ℕ) → p < base + from → (dxAt after p ≡ dxAt before p) × (dyAt after p ≡ dyAt before p)
-  pub over : (p : ℕ) → base + to ≤ p → (dxAt after p ≡ dxAt before p) × (dyAt after p ≡ dyAt before p)
+  pub dy : (x : ℕ) → from ≤ x → x < to → dyAt after (base + x) ≡ siteWay v (best x)
+  pub low-kept : (p : ℕ) → p < base + from → (dxAt after p ≡ dxAt before p) × (dyAt after p ≡ dyAt before p)
+  pub high-kept : (p : ℕ) → base + to ≤ p → (dxAt after p ≡ dxAt before p) × (dyAt after p ≡ dyAt before p)
 
 -- ---- a row that long runs of copper split into parts
 
@@ -83,4 +83,4 @@ pub record Next (base w lo done : ℕ) (ways : List ℤ) (before : List ℤ) (e 
 pub record Solved (w h : ℕ) (before after : List ℤ) : Type 0 where
   pub long : length after ≡ length before
   pub dx : (x y : ℕ) → x < w → y < h → dxAt after (index w x y) ≡ across (bestSite (rowCosts before (y * w) w) w x) x
-  pub dy : (x y : ℕ) → x < w → y < h → dyAt after (index w x y) ≡ along (wayAt before (y * w)) (bestSite (rowCosts before (y * w) w) w x)
+  pub dy : (x y : ℕ) → x < w → y < h → dyAt after (index w x y) ≡ siteWay (wayAt before (y * w)) (bestSite (rowCosts before (y * w) w) w x)

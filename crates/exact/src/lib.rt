@@ -17,14 +17,14 @@ ghost use Rattle.envelope.specs.Best.{noSite, bestSite, Line};
 ghost use Rattle.envelope.specs.Stack.{holder};
 ghost use Rattle.columns.specs.Column.{isZero};
 ghost use Rattle.exact.specs.Nearest.{exactMap, cleared};
-ghost use Rattle.exact.specs.Rows.{costOf, wayAt, rowCosts, costsOf, Written, copperFrom, CopperRun, CopperEnd, Next, Solved};
+ghost use Rattle.exact.specs.Rows.{wayCost, wayAt, rowCosts, costsOf, Written, copperFrom, CopperRun, CopperEnd, Next, Solved};
 
 // ---- one row
 
 // What a column with that way costs.
 fn cost_of(v: i32) -> u32
     requires { ⌜ Short v ⌝ }
-    ensures { λ r. ⌜ r ≡ costOf v ⌝ }
+    ensures { λ r. ⌜ r ≡ wayCost v ⌝ }
 {
     if v == -32768 {
         return 4294967295;
@@ -110,9 +110,9 @@ fn write_row(
     let mut to = n;
     while 0 < c {
         c -= 1;
-        let from = envelope::place(start, c);
+        let from = envelope::element(start, c);
         if from < to {
-            let s = envelope::place(site, c);
+            let s = envelope::element(site, c);
             write_run(map, base, from, to, s, way_at(ways, s));
             to = from;
         }

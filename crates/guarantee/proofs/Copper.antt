@@ -9,7 +9,7 @@ use lib.Dec.{eqb}
 use lib.ListN.{length, getD, getD-replicate}
 use Rattle.raster.specs.Pixels.{Mask, index}
 use Rattle.raster.specs.PixelsLaws.{index-inside, pixels-at}
-use Rattle.raster.specs.Sheet.{copperOf, bare, covers, filled}
+use Rattle.raster.specs.Sheet.{copperOf, bare, inRectangle, filled}
 use Rattle.morphology.specs.Resize.{near, bareOf, grows, stays, expanded, shrunk}
 use Rattle.morphology.proofs.Resized.{near-same}
 
@@ -24,9 +24,9 @@ module _ (w h i j : ℕ) (across : i < w) (down : j < h) where
   bare-copper sheet whole = rw (getD-replicate {A = ℕ} (length sheet) (index w i j) 0 0 (omega (arith, whole, index-inside w i j across h down)))
 
   pub filled-copper : (x y cols rows v : ℕ) (sheet : List ℕ)
-      → copperOf (filled w h x y cols rows v sheet) w i j ≡ cond (covers x y cols rows i j) (not (eqb v 0)) (copperOf sheet w i j)
+      → copperOf (filled w h x y cols rows v sheet) w i j ≡ cond (inRectangle x y cols rows i j) (not (eqb v 0)) (copperOf sheet w i j)
   unfolding copperOf filled
-  filled-copper x y cols rows v sheet = rw (pixels-at {A = ℕ} w h (λ a b. cond (covers x y cols rows a b) v (getD sheet (index w a b) 0)) i j 0 across down) (go (covers x y cols rows i j))
+  filled-copper x y cols rows v sheet = rw (pixels-at {A = ℕ} w h (λ a b. cond (inRectangle x y cols rows a b) v (getD sheet (index w a b) 0)) i j 0 across down) (go (inRectangle x y cols rows i j))
     where
       go : (t : Bool) → not (eqb (cond t v (getD sheet (index w i j) 0)) 0) ≡ cond t (not (eqb v 0)) (not (eqb (getD sheet (index w i j) 0) 0))
       go true = refl

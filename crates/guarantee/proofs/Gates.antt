@@ -20,8 +20,8 @@ use Rattle.scan.proofs.Theorems as scan
 use Rattle.exact.proofs.Theorems as exact
 use Rattle.cutter.specs.Gates.{gateOf, passesAt}
 use Rattle.session.specs.declared.Session.{Session}
-use Rattle.session.specs.Calls.{mapOf}
-use Rattle.guarantee.specs.Claims.{within}
+use Rattle.session.specs.Calls.{engineMap}
+use Rattle.guarantee.specs.Claims.{withinFraction}
 
 -- what a gate g promises at a pixel whose vector is (dx, dy)
 record Promise (copper : Mask) (w h x y : ℕ) (dx dy : ℤ) (g : Gate) : Type 0 where
@@ -35,10 +35,10 @@ module _ (s : Session) (wide : s .width ≤ maxSide) (tall : s .height ≤ maxSi
 
   module _ (x y : ℕ) (across : x < s .width) (down : y < s .height) where
     abbrev dxOf : (engine : ℕ) → ℤ
-    dxOf e = dxAt (mapOf s sheet e) (index (s .width) x y)
+    dxOf e = dxAt (engineMap s sheet e) (index (s .width) x y)
 
     abbrev dyOf : (engine : ℕ) → ℤ
-    dyOf e = dyAt (mapOf s sheet e) (index (s .width) x y)
+    dyOf e = dyAt (engineMap s sheet e) (index (s .width) x y)
 
     promised : (e : ℕ) → Promise copper (s .width) (s .height) x y (dxOf e) (dyOf e) (gateOf e)
     promised e = go (eqb e 1) refl
@@ -57,7 +57,7 @@ module _ (s : Session) (wide : s .width ≤ maxSide) (tall : s .height ≤ maxSi
 
     module _ (e q : ℕ) where
       -- a cutter that passes has all copper above q
-      pub gate-clear : passesAt e (mapOf s sheet e) (index (s .width) x y) q ≡ true → Clear copper (s .width) (s .height) x y q
+      pub gate-clear : passesAt e (engineMap s sheet e) (index (s .width) x y) q ≡ true → Clear copper (s .width) (s .height) x y q
       unfolding passesAt
       gate-clear = go (unlabelled (dxOf e) (dyOf e)) refl
         where
@@ -66,7 +66,7 @@ module _ (s : Session) (wide : s .width ≤ maxSide) (tall : s .height ≤ maxSi
           go false u p = promised e .safe q p
 
       -- one that does not has some within the gate's fraction of q
-      pub gate-close : passesAt e (mapOf s sheet e) (index (s .width) x y) q ≡ false → NearBy (gateOf e) copper (s .width) (s .height) x y q
+      pub gate-close : passesAt e (engineMap s sheet e) (index (s .width) x y) q ≡ false → NearBy (gateOf e) copper (s .width) (s .height) x y q
       unfolding passesAt
       gate-close = go (unlabelled (dxOf e) (dyOf e)) refl
         where
@@ -75,7 +75,7 @@ module _ (s : Session) (wide : s .width ≤ maxSide) (tall : s .height ≤ maxSi
           go false u p = promised e .fair q u p
 
 -- the gate's fraction is the claim's
-pub in-fraction : (e a q : ℕ) → 1 ≤ e → e ≤ 3 → gateOf e .den * a ≤ gateOf e .num * q → within e a q ≡ true
+pub in-fraction : (e a q : ℕ) → 1 ≤ e → e ≤ 3 → gateOf e .den * a ≤ gateOf e .num * q → withinFraction e a q ≡ true
 in-fraction zero a q l k f = absurd (omega arith)
 in-fraction (suc zero) a q l k f = le-leb a q (omega arith)
 in-fraction (suc (suc zero)) a q l k f = le-leb (144 * a) (169 * q) f

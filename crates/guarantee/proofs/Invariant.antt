@@ -14,22 +14,22 @@ use Rattle.raster.specs.Sheet.{copperOf}
 use Rattle.cutter.specs.Gates.{passesAt}
 use Rattle.session.specs.declared.Session.{Session}
 use Rattle.session.specs.State.{sound, active}
-use Rattle.session.specs.Calls.{mapOf}
+use Rattle.session.specs.Calls.{engineMap}
 use Rattle.session.proofs.Granted.{Limited, active-limits}
 use Rattle.guarantee.specs.Board.{Board}
 use Rattle.guarantee.specs.World.{World}
-use Rattle.guarantee.specs.Claims.{Above, within, Close, Agree, Free}
+use Rattle.guarantee.specs.Claims.{Above, withinFraction, Close, Agree, Free}
 use Rattle.guarantee.proofs.Gates.{gate-clear, gate-close, in-fraction}
 use Rattle.guarantee.proofs.Sound.{known-engine}
 
-pub record Built (w : World) : Type 0 where
+pub record CurrentMap (w : World) : Type 0 where
   pub whole : length (w .sheet) ≡ w .session .height * w .session .width
-  pub map-is : w .map ≡ mapOf (w .session) (w .sheet) (w .session .engine)
+  pub map-is : w .map ≡ engineMap (w .session) (w .sheet) (w .session .engine)
 
 pub record Inv (b : Board) (w : World) : Type 0 where
   pub agree : Agree b w
   pub fine : sound (w .session) ≡ true
-  pub built : w .session .current ≡ true → Built w
+  pub built : w .session .current ≡ true → CurrentMap w
   pub stands : w .session .lowered ≡ true → Free w (w .session .x) (w .session .y)
 
 -- an open sheet has a side other than 0
@@ -43,12 +43,12 @@ module _ {b : Board} {w : World} (inv : Inv b w) where
       let a = inv .agree in
       let x : i < w .session .width = omega (arith, c .across, a .width) in
       let y : j < w .session .height = omega (arith, c .down, a .height) in
-      record { across = x; down = y; metal = a .copper i j x y ∙ c .metal }
+      record { across = x; down = y; is-copper = a .copper i j x y ∙ c .is-copper }
 
   on-board : {i j : ℕ} → Copper (copperOf (w .sheet) (w .session .width)) (w .session .width) (w .session .height) i j → Copper (b .copper) (b .width) (b .height) i j
   on-board {i} {j} c =
       let a = inv .agree in
-      record { across = omega (arith, c .across, a .width); down = omega (arith, c .down, a .height); metal = sym (a .copper i j (c .across) (c .down)) ∙ c .metal }
+      record { across = omega (arith, c .across, a .width); down = omega (arith, c .down, a .height); is-copper = sym (a .copper i j (c .across) (c .down)) ∙ c .is-copper }
 
   pub above : (q x y : ℕ) → Clear (copperOf (w .sheet) (w .session .width)) (w .session .width) (w .session .height) x y q → Above b q x y
   above q x y clear i j c = clear i j (on-sheet c)
@@ -84,6 +84,6 @@ module _ {b : Board} {w : World} (inv : Inv b w) where
           row = n .row;
           copper = on-board (n .copper);
           fraction =
-              subst (λ (e : ℕ). within e (apart x y (n .column) (n .row)) q ≡ true) (inv .agree .engine)
+              subst (λ (e : ℕ). withinFraction e (apart x y (n .column) (n .row)) q ≡ true) (inv .agree .engine)
               (in-fraction (w .session .engine) (apart x y (n .column) (n .row)) q (engine .0) (engine .1) (n .within));
         }

@@ -9,11 +9,11 @@ use native.Mathlib.Omega.{arith}
 use lib.Dec.{eqb, leb}
 use lib.IntN.{ℤ}
 use borrow.Author.Tests.{eqb-true, eqb-false, ne-eqb, leb-true, not-true, not-false}
-use Rattle.raster.specs.LoopLaws.{some-found, some-false}
+use Rattle.raster.specs.LoopLaws.{any-found, any-false}
 use Rattle.raster.specs.Distance.{Clear}
 use Rattle.raster.specs.Pixels.{Mask}
 use Rattle.raster.specs.Tests.{and-left}
-use Rattle.raster.specs.Sheet.{copperOf, bare, covers}
+use Rattle.raster.specs.Sheet.{copperOf, bare, inRectangle}
 use Rattle.raster.specs.Map.{unmapped}
 use Rattle.raster.specs.Refusal.{lastOf}
 use Rattle.cutter.specs.Directions.{columnAfter, rowAfter}
@@ -25,20 +25,20 @@ use Rattle.session.specs.State.{sound, active, stale, builtBy, cutterAs}
 use Rattle.session.specs.Calls as session
 use Rattle.session.specs.Calls.{cutterOf, ownCutter, buildAnswer, placeAnswer, runAnswer}
 use Rattle.session.proofs.Granted.{open-granted, fill-granted, build-granted, Building, place-granted, run-granted, Running, resize-granted}
-use Rattle.guarantee.specs.Board.{Lent, Call, opening, paint, erase, build, place, run, lift, expand, shrink, skeleton, rebuild, aside, Cutter, up, down, Board, recoppered, withCutter, moved, done, feed}
-use Rattle.guarantee.specs.World.{World, world, lentTo, answer, left, after}
+use Rattle.guarantee.specs.Board.{Lent, Call, opening, paint, erase, build, place, run, lift, expand, shrink, skeleton, rebuild, aside, BoardCutter, up, down, Board, recoppered, withCutter, cutterRun, done, feed}
+use Rattle.guarantee.specs.World.{World, world, lentTo, answer, left, worldAfter}
 use Rattle.guarantee.specs.Claims.{Along, Safe, Stopped, Fair, Claim, SameCutter, Free}
 use Rattle.guarantee.proofs.Answers.{Quiet, open-quiet, fill-quiet, build-quiet, place-quiet, run-quiet, resize-quiet, read-quiet, last-done, last-holds, last-never}
 use Rattle.guarantee.proofs.Sound.{open-sound, stale-sound, built-sound, up-sound, down-sound}
 use Rattle.guarantee.proofs.Copper.{bare-copper, filled-copper, expanded-copper, shrunk-copper}
-use Rattle.guarantee.proofs.Invariant.{Built, Inv, opens, above, passed-clear, failed-close}
+use Rattle.guarantee.proofs.Invariant.{CurrentMap, Inv, opens, above, passed-clear, failed-close}
 
-pub record Step (c : Call) (b : Board) (w : World) : Type 0 where
+pub record StepHolds (c : Call) (b : Board) (w : World) : Type 0 where
   pub claim : Claim c (answer c w) b
-  pub next : Inv (feed c (answer c w) b) (after c w)
+  pub next : Inv (feed c (answer c w) b) (worldAfter c w)
 
 -- a call that is refused, save with 35, leaves everything as it was
-refused : (c : Call) (w : World) → eqb (answer c w) 0 ≡ false → eqb (answer c w) 35 ≡ false → after c w ≡ w
+refused : (c : Call) (w : World) → eqb (answer c w) 0 ≡ false → eqb (answer c w) 35 ≡ false → worldAfter c w ≡ w
 refused (opening x y o) w e f = rw e
 refused (paint x y c r) w e f = rw e
 refused (erase x y c r) w e f = rw e
@@ -59,7 +59,7 @@ upOver x y e c = record { opened = true; width = x; height = y; current = c; eng
 
 up-inv : (x y e : ℕ) (c : Bool) (copper : Mask) (sheet : List ℕ) (map : List ℤ) → sound (upOver x y e c) ≡ true → c ≡ not (eqb e 0)
     → ((i j : ℕ) → i < x → j < y → copperOf sheet x i j ≡ copper i j)
-    → (c ≡ true → Built (world (upOver x y e c) sheet map))
+    → (c ≡ true → CurrentMap (world (upOver x y e c) sheet map))
     → Inv (record { width = x; height = y; copper = copper; engine = e; cutter = up }) (world (upOver x y e c) sheet map)
 up-inv x y e c copper sheet map fine known same built = record {
   agree = record { width = refl; height = refl; engine = refl; cutter = refl; opened = opens (upOver x y e c) fine; current = known; copper = same };
@@ -77,16 +77,16 @@ module _ {b : Board} {w : World} (inv : Inv b w) where
 
   -- the invariant after any call, from what it is after one that is done and after 35
   after-inv : (c : Call) → (answer c w ≡ 0 → Inv (done c b) (left c 0 w)) → (answer c w ≡ 35 → Inv (recoppered (b .copper) b) (left c 35 w))
-      → Inv (feed c (answer c w) b) (after c w)
+      → Inv (feed c (answer c w) b) (worldAfter c w)
   after-inv c when-done when-35 = go (eqb (answer c w) 0) (eqb (answer c w) 35) refl refl
     where
-      go : (t u : Bool) → eqb (answer c w) 0 ≡ t → eqb (answer c w) 35 ≡ u → Inv (cond t (done c b) (cond u (recoppered (b .copper) b) b)) (after c w)
+      go : (t u : Bool) → eqb (answer c w) 0 ≡ t → eqb (answer c w) 35 ≡ u → Inv (cond t (done c b) (cond u (recoppered (b .copper) b) b)) (worldAfter c w)
       go true u e f = let z = eqb-true (answer c w) 0 e in rw z (when-done z)
       go false true e f = let z = eqb-true (answer c w) 35 f in rw z (when-35 z)
       go false false e f = rw (refused c w e f) inv
 
   -- a call that answers neither 34 nor 35 and brings no cutter down
-  quiet-step : (c : Call) → Quiet (answer c w) → Safe c b → (answer c w ≡ 0 → Inv (done c b) (left c 0 w)) → Step c b w
+  quiet-step : (c : Call) → Quiet (answer c w) → Safe c b → (answer c w ≡ 0 → Inv (done c b) (left c 0 w)) → StepHolds c b w
   quiet-step c quiet safe when-done = record {
     claim = record { safe = λ e. safe; fair = λ e. absurd (eqb-false _ 34 (quiet .no-34) e) };
     next = after-inv c when-done (λ e. absurd (eqb-false _ 35 (quiet .no-35) e));
@@ -102,7 +102,7 @@ module _ {b : Board} {w : World} (inv : Inv b w) where
 
   -- ---- open
 
-  pub open-step : (x y : ℕ) (o : Option Lent) → Step (opening x y o) b w
+  pub open-step : (x y : ℕ) (o : Option Lent) → StepHolds (opening x y o) b w
   open-step x y o = quiet-step (opening x y o) (open-quiet (lentTo o w .sheet) x y) tt (λ e.
       let g = open-granted (lentTo o w .sheet) x y e in
       up-inv x y 0 false (λ i j. false) (bare (lentTo o w .sheet)) (lentTo o w .map) (open-sound x y (g .0)) refl
@@ -119,22 +119,22 @@ module _ {b : Board} {w : World} (inv : Inv b w) where
   erased false u = refl
 
   module _ (x y cols rows : ℕ) where
-    fill-inv : (v : ℕ) (copper : Mask) → ((i j : ℕ) → cond (covers x y cols rows i j) (not (eqb v 0)) (b .copper i j) ≡ copper i j)
+    fill-inv : (v : ℕ) (copper : Mask) → ((i j : ℕ) → cond (inRectangle x y cols rows i j) (not (eqb v 0)) (b .copper i j) ≡ copper i j)
         → session.fillAnswer s (w .sheet) x y cols rows ≡ 0
         → Inv (recoppered copper b) (world (stale s) (session.filledBy s x y cols rows v (w .sheet)) (w .map))
     fill-inv v copper rule e =
         stale-inv (fill-granted s (w .sheet) x y cols rows refl e .open-sheet) _ (w .map) copper
         (λ i j k l. filled-copper (s .width) (s .height) i j k l x y cols rows v (w .sheet) ∙ rw (same i j k l) (rule i j))
 
-    pub paint-step : Step (paint x y cols rows) b w
+    pub paint-step : StepHolds (paint x y cols rows) b w
     paint-step =
         quiet-step (paint x y cols rows) (fill-quiet s (w .sheet) x y cols rows) tt
-        (fill-inv 1 _ (λ i j. painted (covers x y cols rows i j) (b .copper i j)))
+        (fill-inv 1 _ (λ i j. painted (inRectangle x y cols rows i j) (b .copper i j)))
 
-    pub erase-step : Step (erase x y cols rows) b w
+    pub erase-step : StepHolds (erase x y cols rows) b w
     erase-step =
         quiet-step (erase x y cols rows) (fill-quiet s (w .sheet) x y cols rows) tt
-        (fill-inv 0 _ (λ i j. erased (covers x y cols rows i j) (b .copper i j)))
+        (fill-inv 0 _ (λ i j. erased (inRectangle x y cols rows i j) (b .copper i j)))
 
   -- ---- expand and shrink
 
@@ -145,32 +145,32 @@ module _ {b : Board} {w : World} (inv : Inv b w) where
     resize-inv sheet copper new e =
         stale-inv (resize-granted s (w .sheet) (w .map) scratch q refl e .open-sheet) sheet (unmapped (w .map)) copper new
 
-    pub expand-step : Step (expand q scratch) b w
+    pub expand-step : StepHolds (expand q scratch) b w
     expand-step =
         quiet-step (expand q scratch) (resize-quiet s (w .sheet) (w .map) scratch q) tt
         (resize-inv _ _ (λ i j k l. rw (← inv .agree .width, ← inv .agree .height) (expanded-copper (s .width) (s .height) i j k l q (w .sheet) (b .copper) same)))
 
-    pub shrink-step : Step (shrink q scratch) b w
+    pub shrink-step : StepHolds (shrink q scratch) b w
     shrink-step =
         quiet-step (shrink q scratch) (resize-quiet s (w .sheet) (w .map) scratch q) tt
         (resize-inv _ _ (λ i j k l. rw (← inv .agree .width, ← inv .agree .height) (shrunk-copper (s .width) (s .height) i j k l q (w .sheet) (b .copper) same)))
 
   -- ---- calls that change nothing here
 
-  pub skeleton-step : (out : List ℕ) → Step (skeleton out) b w
+  pub skeleton-step : (out : List ℕ) → StepHolds (skeleton out) b w
   skeleton-step out = quiet-step (skeleton out) (read-quiet s (w .map) (session.notSheet s out)) tt (λ e. inv)
 
-  pub rebuild-step : (marks out : List ℕ) → Step (rebuild marks out) b w
+  pub rebuild-step : (marks out : List ℕ) → StepHolds (rebuild marks out) b w
   rebuild-step marks out = quiet-step (rebuild marks out) (read-quiet s (w .map) (session.notSheet s marks || session.notSheet s out)) tt (λ e. inv)
 
-  pub aside-step : Step aside b w
+  pub aside-step : StepHolds aside b w
   aside-step = quiet-step aside (record { no-34 = refl; no-35 = refl }) tt (λ e. inv)
 
   -- ---- build
 
   module _ (e : ℕ) (scratch : List ℤ) where
-    abbrev over : Bool
-    over = session.overflows s (w .sheet) e
+    abbrev left-range : Bool
+    left-range = session.overflows s (w .sheet) e
 
     abbrev refusal : ℕ
     refusal = session.buildRefusal s (w .sheet) (w .map) scratch e
@@ -178,29 +178,29 @@ module _ {b : Board} {w : World} (inv : Inv b w) where
     granted : refusal ≡ 0 → Building s (w .sheet) (w .map) scratch e
     granted = build-granted s (w .sheet) (w .map) scratch e refl
 
-    built-inv : Building s (w .sheet) (w .map) scratch e → Inv (done (build e scratch) b) (world (builtBy e s) (w .sheet) (session.mapOf s (w .sheet) e))
+    built-inv : Building s (w .sheet) (w .map) scratch e → Inv (done (build e scratch) b) (world (builtBy e s) (w .sheet) (session.engineMap s (w .sheet) e))
     built-inv g =
         rw (← inv .agree .width, ← inv .agree .height)
-        (up-inv (s .width) (s .height) e true (b .copper) (w .sheet) (session.mapOf s (w .sheet) e) (built-sound s (g .open-sheet) e (g .known))
+        (up-inv (s .width) (s .height) e true (b .copper) (w .sheet) (session.engineMap s (w .sheet) e) (built-sound s (g .open-sheet) e (g .known))
         (rw (ne-eqb e 0 (omega (arith, leb-true 1 e (and-left (leb 1 e) _ (g .known)))))) same
         (λ c. record { whole = g .held; map-is = refl }))
 
-    pub build-step : Step (build e scratch) b w
+    pub build-step : StepHolds (build e scratch) b w
     unfolding buildAnswer
     build-step = record {
       claim = record {
         safe = λ p. tt;
-        fair = λ p. eqb-false _ 34 (last-never refusal over 35 (omega arith) 34 (omega arith) (build-quiet s (w .sheet) (w .map) scratch e .no-34) refl) p;
+        fair = λ p. eqb-false _ 34 (last-never refusal left-range 35 (omega arith) 34 (omega arith) (build-quiet s (w .sheet) (w .map) scratch e .no-34) refl) p;
       };
       next = after-inv (build e scratch)
-          (λ p. built-inv (granted (last-done refusal over 35 (omega arith) p .0)))
-          (λ p. let r = last-holds refusal over 35 (omega arith) (build-quiet s (w .sheet) (w .map) scratch e .no-35) p in
+          (λ p. built-inv (granted (last-done refusal left-range 35 (omega arith) p .0)))
+          (λ p. let r = last-holds refusal left-range 35 (omega arith) (build-quiet s (w .sheet) (w .map) scratch e .no-35) p in
           stale-inv (granted (r .0) .open-sheet) (w .sheet) (unmapped (w .map)) (b .copper) same);
     }
 
   -- ---- lift, place and run: the cutter alone changes
 
-  cutter-inv : (l : Bool) (x y q : ℕ) (k : Cutter) → SameCutter k (cutterAs l x y q s) → sound (cutterAs l x y q s) ≡ true
+  cutter-inv : (l : Bool) (x y q : ℕ) (k : BoardCutter) → SameCutter k (cutterAs l x y q s) → sound (cutterAs l x y q s) ≡ true
       → (l ≡ true → Clear (copperOf (w .sheet) (s .width)) (s .width) (s .height) x y q)
       → Inv (withCutter k b) (world (cutterAs l x y q s) (w .sheet) (w .map))
   cutter-inv l x y q k as-said fine clear = record {
@@ -218,7 +218,7 @@ module _ {b : Board} {w : World} (inv : Inv b w) where
     stands = clear;
   }
 
-  pub lift-step : Step lift b w
+  pub lift-step : StepHolds lift b w
   lift-step =
       quiet-step lift (record { no-34 = refl; no-35 = refl }) tt
       (λ e. rw (inv .fine) (cutter-inv false 0 0 0 up refl (up-sound s (inv .fine)) (λ l. absurd (true≢false (sym l)))))
@@ -228,7 +228,7 @@ module _ {b : Board} {w : World} (inv : Inv b w) where
   gate-step : (c : Call) (refusal : ℕ) (stops : Bool) → answer c w ≡ lastOf refusal stops 34 → Quiet refusal
       → (refusal ≡ 0 → stops ≡ false → Safe c b × Inv (done c b) (left c 0 w))
       → (refusal ≡ 0 → stops ≡ true → Fair c b)
-      → Step c b w
+      → StepHolds c b w
   gate-step c refusal stops table quiet goes fair = record {
     claim = record {
       safe = λ e. go e .0;
@@ -241,7 +241,7 @@ module _ {b : Board} {w : World} (inv : Inv b w) where
       go : answer c w ≡ 0 → Safe c b × Inv (done c b) (left c 0 w)
       go e = let r = last-done refusal stops 34 (omega arith) (sym table ∙ e) in goes (r .0) (r .1)
 
-  pub place-step : (x y q : ℕ) → Step (place x y q) b w
+  pub place-step : (x y q : ℕ) → StepHolds (place x y q) b w
   unfolding placeAnswer
   place-step x y q =
       gate-step (place x y q) (session.placeRefusal s (w .map) x y q) (not (mayStand (cutterOf s x y q) (w .map))) refl
@@ -261,7 +261,7 @@ module _ {b : Board} {w : World} (inv : Inv b w) where
 
     -- the cutter may stand where i steps end
     abbrev free : ℕ → Bool
-    free i = mayStand (cutter.after d i (ownCutter s)) (w .map)
+    free i = mayStand (cutter.cutterAfter d i (ownCutter s)) (w .map)
 
     -- each step of a run that is done ends free of copper
     frees : Running s (w .map) d n → stops ≡ false → (i : ℕ) → 1 ≤ i → i ≤ n → Free w (columnAfter d i (s .x)) (rowAfter d i (s .y))
@@ -269,23 +269,23 @@ module _ {b : Board} {w : World} (inv : Inv b w) where
     frees g none i low high =
         let o = on-the-way (g .on) high in
         let k : i - 1 + 1 ≡ i = omega arith in
-        let f = some-false n (λ j. not (free (j + 1))) (i - 1) none (omega arith) in
+        let f = any-false n (λ j. not (free (j + 1))) (i - 1) none (omega arith) in
         let p : free i ≡ true = not-false _ (rw k at f) in
         passed-clear inv (g .open-sheet) (g .cutter .current) (columnAfter d i (s .x)) (rowAfter d i (s .y)) (s .q) (o .end .across) (o .end .down) p
 
-    along : (k : Cutter) → SameCutter k s → ((i : ℕ) → 1 ≤ i → i ≤ n → Free w (columnAfter d i (s .x)) (rowAfter d i (s .y))) → Along b d n k
-    along up e f = tt
-    along (down x y q) (l, (a, (c, e))) f = λ i low high. rw (← a, ← c, ← e) (above inv (s .q) _ _ (f i low high))
+    run-above : (k : BoardCutter) → SameCutter k s → ((i : ℕ) → 1 ≤ i → i ≤ n → Free w (columnAfter d i (s .x)) (rowAfter d i (s .y))) → Along b d n k
+    run-above up e f = tt
+    run-above (down x y q) (l, (a, (c, e))) f = λ i low high. rw (← a, ← c, ← e) (above inv (s .q) _ _ (f i low high))
 
     -- one that is stopped has a step that ends too near to copper
-    stopped : (k : Cutter) → SameCutter k s → Running s (w .map) d n → stops ≡ true → Stopped b d n k
+    stopped : (k : BoardCutter) → SameCutter k s → Running s (w .map) d n → stops ≡ true → Stopped b d n k
     unfolding blocked
     stopped up e g p = true≢false (sym (g .lowered) ∙ e)
     stopped (down x y q) (l, (a, (c, e))) g p =
-        let f = some-found n _ p in
-        let o = on-the-way (g .on) (let m : f .place + 1 ≤ n = omega (arith, f .below) in m) in
+        let f = any-found n _ p in
+        let o = on-the-way (g .on) (let m : f .witness + 1 ≤ n = omega (arith, f .below) in m) in
         record {
-          step = f .place + 1;
+          step = f .witness + 1;
           first = omega arith;
           last = omega (arith, f .below);
           close =
@@ -293,18 +293,18 @@ module _ {b : Board} {w : World} (inv : Inv b w) where
               (failed-close inv (g .open-sheet) (g .cutter .current) _ _ (s .q) (o .end .across) (o .end .down) (not-true _ (f .passes)));
         }
 
-    moves : (k : Cutter) → SameCutter k s → s .lowered ≡ true → SameCutter (moved d n k) (session.runSession s d n)
+    moves : (k : BoardCutter) → SameCutter k s → s .lowered ≡ true → SameCutter (cutterRun d n k) (session.runSession s d n)
     moves up e l = absurd (true≢false (sym l ∙ e))
     moves (down x y q) (l, (a, (c, e))) m = (refl, (ap (columnAfter d n) a, (ap (rowAfter d n) c, e)))
 
-    pub run-step : Step (run d n) b w
+    pub run-step : StepHolds (run d n) b w
     unfolding runAnswer
     run-step =
         gate-step (run d n) (session.runRefusal s (w .map) d n) stops refl (run-quiet s (w .map) d n)
         (λ z p.
         let g = run-granted s (w .map) d n refl z in (
-          along (b .cutter) (inv .agree .cutter) (frees g p),
-          cutter-inv true (columnAfter d n (s .x)) (rowAfter d n (s .y)) (s .q) (moved d n (b .cutter)) (moves (b .cutter) (inv .agree .cutter) (g .lowered))
+          run-above (b .cutter) (inv .agree .cutter) (frees g p),
+          cutter-inv true (columnAfter d n (s .x)) (rowAfter d n (s .y)) (s .q) (cutterRun d n (b .cutter)) (moves (b .cutter) (inv .agree .cutter) (g .lowered))
               (down-sound s (inv .fine) (columnAfter d n (s .x)) (rowAfter d n (s .y)) (s .q) (g .cutter .current) (g .on .end .across) (g .on .end .down) (g .cutter .small))
               (λ l. frees g p n (g .steps) (omega arith)),
         ))

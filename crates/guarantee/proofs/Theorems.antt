@@ -9,10 +9,10 @@ use lib.IntN.{ℤ}
 use Rattle.session.specs.State.{fresh, cutterSound, mapSound, sheetSound, sound}
 use Rattle.guarantee.specs.Board.{Call, opening, paint, erase, build, place, run, lift, expand, shrink, skeleton, rebuild, aside, Board, blank}
 use Rattle.guarantee.specs.World.{World, world}
-use Rattle.guarantee.specs.Claims.{Holds, Guarantee, leftBy, Workshop}
+use Rattle.guarantee.specs.Claims.{ClaimsHold, Guarantee, leftBy, Workshop}
 use Rattle.guarantee.proofs.Invariant.{Inv}
 use Rattle.guarantee.proofs.Steps.{
-  Step,
+  StepHolds,
   open-step,
   paint-step,
   erase-step,
@@ -28,7 +28,7 @@ use Rattle.guarantee.proofs.Steps.{
   aside-step,
 }
 
-step : (c : Call) {b : Board} {w : World} → Inv b w → Step c b w
+step : (c : Call) {b : Board} {w : World} → Inv b w → StepHolds c b w
 step (opening x y o) inv = open-step inv x y o
 step (paint x y c r) inv = paint-step inv x y c r
 step (erase x y c r) inv = erase-step inv x y c r
@@ -52,7 +52,7 @@ start sheet map = record {
   stands = λ e. absurd (true≢false (sym e));
 }
 
-holds : (cs : List Call) {b : Board} {w : World} → Inv b w → Holds cs b w
+holds : (cs : List Call) {b : Board} {w : World} → Inv b w → ClaimsHold cs b w
 holds [] inv = tt
 holds (c ∷ cs) inv = let s = step c inv in (s .claim, (s .next .agree, holds cs (s .next)))
 
@@ -63,11 +63,11 @@ guarantee cs sheet map = holds cs (start sheet map)
 -- ---- the workshop's words
 
 -- the board that a list leaves
-record Left (w : World) : Type 0 where
+record Reached (w : World) : Type 0 where
   board : Board
   inv : Inv board w
 
-left : (cs : List Call) {b : Board} {w : World} → Inv b w → Left (leftBy cs w)
+left : (cs : List Call) {b : Board} {w : World} → Inv b w → Reached (leftBy cs w)
 left [] {b} inv = record { board = b; inv = inv }
 left (c ∷ cs) inv = left cs (step c inv .next)
 

@@ -7,7 +7,7 @@ use Prim.Native.Nat.{ℕ}
 use lib.Dec.{eqb}
 use lib.IntN.{ℤ}
 use Rattle.raster.specs.Pixels.{Mask}
-use Rattle.raster.specs.Sheet.{covers}
+use Rattle.raster.specs.Sheet.{inRectangle}
 use Rattle.morphology.specs.Resize.{grows, stays}
 use Rattle.cutter.specs.Directions.{columnAfter, rowAfter}
 
@@ -37,9 +37,9 @@ pub data Call : Type 0 where
 -- ---- the board
 
 -- up, or down at a pixel with a q
-pub data Cutter : Type 0 where
-  up : Cutter
-  down : (x y q : ℕ) → Cutter
+pub data BoardCutter : Type 0 where
+  up : BoardCutter
+  down : (x y q : ℕ) → BoardCutter
 
 -- W, H, the copper, the engine and the cutter
 pub record Board : Type 0 where
@@ -47,7 +47,7 @@ pub record Board : Type 0 where
   pub height : ℕ
   pub copper : Mask
   pub engine : ℕ
-  pub cutter : Cutter
+  pub cutter : BoardCutter
 
 -- at the start
 abbrev pub blank : Board
@@ -57,22 +57,22 @@ blank = record { width = 0; height = 0; copper = λ i j. false; engine = 0; cutt
 abbrev pub recoppered : Mask → Board → Board
 recoppered m b = record { width = b .width; height = b .height; copper = m; engine = 0; cutter = up }
 
-abbrev pub withCutter : Cutter → Board → Board
+abbrev pub withCutter : BoardCutter → Board → Board
 withCutter c b = record { width = b .width; height = b .height; copper = b .copper; engine = b .engine; cutter = c }
 
 -- where a run of n steps leaves the cutter
-abbrev pub moved : (direction n : ℕ) → Cutter → Cutter
-moved d n up = up
-moved d n (down x y q) = down (columnAfter d n x) (rowAfter d n y) q
+abbrev pub cutterRun : (direction n : ℕ) → BoardCutter → BoardCutter
+cutterRun d n up = up
+cutterRun d n (down x y q) = down (columnAfter d n x) (rowAfter d n y) q
 
 -- after a call that is done
 abbrev pub done : Call → Board → Board
 done (opening w h o) b = record { width = w; height = h; copper = λ i j. false; engine = 0; cutter = up }
-done (paint x y c r) b = recoppered (λ i j. covers x y c r i j || b .copper i j) b
-done (erase x y c r) b = recoppered (λ i j. not (covers x y c r i j) && b .copper i j) b
+done (paint x y c r) b = recoppered (λ i j. inRectangle x y c r i j || b .copper i j) b
+done (erase x y c r) b = recoppered (λ i j. not (inRectangle x y c r i j) && b .copper i j) b
 done (build e s) b = record { width = b .width; height = b .height; copper = b .copper; engine = e; cutter = up }
 done (place x y q) b = withCutter (down x y q) b
-done (run d n) b = withCutter (moved d n (b .cutter)) b
+done (run d n) b = withCutter (cutterRun d n (b .cutter)) b
 done lift b = withCutter up b
 done (expand q s) b = recoppered (grows (b .copper) (b .width) (b .height) q) b
 done (shrink q s) b = recoppered (stays (b .copper) (b .width) (b .height) q) b

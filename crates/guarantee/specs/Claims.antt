@@ -14,8 +14,8 @@ use Rattle.raster.specs.Sheet.{copperOf}
 use Rattle.cutter.specs.Directions.{columnAfter, rowAfter}
 use Rattle.session.specs.declared.Session.{Session}
 use Rattle.session.specs.State.{fresh}
-use Rattle.guarantee.specs.Board.{Call, opening, paint, erase, build, place, run, lift, expand, shrink, skeleton, rebuild, aside, Cutter, up, down, Board, blank, feed}
-use Rattle.guarantee.specs.World.{World, world, answer, after}
+use Rattle.guarantee.specs.Board.{Call, opening, paint, erase, build, place, run, lift, expand, shrink, skeleton, rebuild, aside, BoardCutter, up, down, Board, blank, feed}
+use Rattle.guarantee.specs.World.{World, world, answer, worldAfter}
 
 -- ---- what is claimed at a call, the board being as it was before it
 
@@ -24,7 +24,7 @@ abbrev pub Above : Board → (q x y : ℕ) → Type 0
 Above b q x y = Clear (b .copper) (b .width) (b .height) x y q
 
 -- so it is from each pixel to which a run of n steps brings a lowered cutter; one that is up is brought nowhere
-abbrev pub Along : Board → (direction n : ℕ) → Cutter → Type 0
+abbrev pub Along : Board → (direction n : ℕ) → BoardCutter → Type 0
 Along b d n up = Unit {0}
 Along b d n (down x y q) = (i : ℕ) → 1 ≤ i → i ≤ n → Above b q (columnAfter d i x) (rowAfter d i y)
 
@@ -44,15 +44,15 @@ Safe (rebuild m o) b = Unit {0}
 Safe aside b = Unit {0}
 
 -- squared distance e is at most q on the exact map, at most 169/144 of q on 8SED, at most twice q on 4SED
-abbrev pub within : (engine e q : ℕ) → Bool
-within n e q = cond (eqb n 1) (leb e q) (cond (eqb n 2) (leb (144 * e) (169 * q)) (cond (eqb n 3) (leb e (2 * q)) false))
+abbrev pub withinFraction : (engine e q : ℕ) → Bool
+withinFraction n e q = cond (eqb n 1) (leb e q) (cond (eqb n 2) (leb (144 * e) (169 * q)) (cond (eqb n 3) (leb e (2 * q)) false))
 
 -- some copper of the board is that near to (x, y)
 pub record Close (b : Board) (q x y : ℕ) : Type 0 where
   pub column : ℕ
   pub row : ℕ
   pub copper : Copper (b .copper) (b .width) (b .height) column row
-  pub fraction : within (b .engine) (apart x y column row) q ≡ true
+  pub fraction : withinFraction (b .engine) (apart x y column row) q ≡ true
 
 -- that holds after some step of a run
 pub record Met (b : Board) (direction n x y q : ℕ) : Type 0 where
@@ -62,7 +62,7 @@ pub record Met (b : Board) (direction n x y q : ℕ) : Type 0 where
   pub close : Close b q (columnAfter direction step x) (rowAfter direction step y)
 
 -- that of the board's cutter; one that is up is not stopped
-abbrev pub Stopped : Board → (direction n : ℕ) → Cutter → Type 0
+abbrev pub Stopped : Board → (direction n : ℕ) → BoardCutter → Type 0
 Stopped b d n up = ⊥
 Stopped b d n (down x y q) = Met b d n x y q
 
@@ -89,7 +89,7 @@ pub record Claim (c : Call) (answer : ℕ) (b : Board) : Type 0 where
 -- ---- session and sheet agree with the board
 
 -- up in both, or down in both at the same pixel with the same q
-abbrev pub SameCutter : Cutter → Session → Type 0
+abbrev pub SameCutter : BoardCutter → Session → Type 0
 SameCutter up s = s .lowered ≡ false
 SameCutter (down x y q) s = (s .lowered ≡ true) × ((s .x ≡ x) × ((s .y ≡ y) × (s .q ≡ q)))
 
@@ -106,20 +106,20 @@ pub record Agree (b : Board) (w : World) : Type 0 where
 -- ---- lists of calls
 
 -- at each call of a list its claim holds, and agreement after it
-abbrev pub Holds : List Call → Board → World → Type 0
-Holds [] b w = Unit {0}
-Holds (c ∷ cs) b w = Claim c (answer c w) b × (Agree (feed c (answer c w) b) (after c w) × Holds cs (feed c (answer c w) b) (after c w))
+abbrev pub ClaimsHold : List Call → Board → World → Type 0
+ClaimsHold [] b w = Unit {0}
+ClaimsHold (c ∷ cs) b w = Claim c (answer c w) b × (Agree (feed c (answer c w) b) (worldAfter c w) × ClaimsHold cs (feed c (answer c w) b) (worldAfter c w))
 
 -- the theorem: from a fresh session, whatever sheet and map hold, for every list of calls
 abbrev pub Guarantee : Type 0
-Guarantee = (cs : List Call) (sheet : List ℕ) (map : List ℤ) → Holds cs blank (world fresh sheet map)
+Guarantee = (cs : List Call) (sheet : List ℕ) (map : List ℤ) → ClaimsHold cs blank (world fresh sheet map)
 
 -- ---- for the workshop: session and sheet alone
 
 -- what a list of calls leaves
 abbrev pub leftBy : List Call → World → World
 leftBy [] w = w
-leftBy (c ∷ cs) w = leftBy cs (after c w)
+leftBy (c ∷ cs) w = leftBy cs (worldAfter c w)
 
 -- all copper of the sheet is at squared distance above the lowered cutter's q from (x, y)
 abbrev pub Free : World → (x y : ℕ) → Type 0

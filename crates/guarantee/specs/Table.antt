@@ -12,11 +12,11 @@ use Rattle.skeleton.specs.Skeleton.{skeletonOf}
 use Rattle.radius.specs.Radius.{radiusQ}
 use Rattle.cutter.specs.Gates.{passesAt}
 use Rattle.session.specs.State.{openedAs}
-use Rattle.session.specs.Calls.{mapOf}
+use Rattle.session.specs.Calls.{engineMap}
 
 -- 4 × 4 with copper at (3, 0), (0, 3) and (2, 2): its map by an engine
 unfoldable pub four : (engine : ℕ) → List ℤ
-four = mapOf (openedAs 4 4) (0 ∷ 0 ∷ 0 ∷ 1 ∷ 0 ∷ 0 ∷ 0 ∷ 0 ∷ 0 ∷ 0 ∷ 1 ∷ 0 ∷ 1 ∷ 0 ∷ 0 ∷ 0 ∷ [])
+four = engineMap (openedAs 4 4) (0 ∷ 0 ∷ 0 ∷ 1 ∷ 0 ∷ 0 ∷ 0 ∷ 0 ∷ 0 ∷ 0 ∷ 1 ∷ 0 ∷ 1 ∷ 0 ∷ 0 ∷ 0 ∷ [])
 
 -- 3 × 1 with copper at 0: what each engine makes of it
 unfoldable pub three : List ℤ
@@ -24,7 +24,7 @@ three = pos 0 ∷ pos 0 ∷ negsuc 0 ∷ pos 0 ∷ negsuc 1 ∷ pos 0 ∷ []
 
 -- 5 × 1 with copper at both ends: its exact map
 unfoldable pub ends : List ℤ
-ends = mapOf (openedAs 5 1) (1 ∷ 0 ∷ 0 ∷ 0 ∷ 1 ∷ []) 1
+ends = engineMap (openedAs 5 1) (1 ∷ 0 ∷ 0 ∷ 0 ∷ 1 ∷ []) 1
 
 pub data Marked : Type 0 where
   m1 m2 m3 m4 m5 m6 m7 m8 m9 : Marked
@@ -36,9 +36,9 @@ Says m2 = (passesAt 1 (four 1) 0 7 ≡ true) × (passesAt 1 (four 1) 0 8 ≡ fal
 Says m3 = (passesAt 2 (four 2) 0 6 ≡ true) × (passesAt 2 (four 2) 0 7 ≡ false)
 Says m4 = (passesAt 3 (four 3) 0 4 ≡ true) × (passesAt 3 (four 3) 0 5 ≡ false)
 Says m5 =
-    (mapOf (openedAs 3 1) (1 ∷ 0 ∷ 0 ∷ []) 1 ≡ three)
-    × ((mapOf (openedAs 3 1) (1 ∷ 0 ∷ 0 ∷ []) 2 ≡ three) × (mapOf (openedAs 3 1) (1 ∷ 0 ∷ 0 ∷ []) 3 ≡ three))
-Says m6 = (dxAt (mapOf (openedAs 3 1) (1 ∷ 0 ∷ 1 ∷ []) 1) 1 ≡ negsuc 0) × (dyAt (mapOf (openedAs 3 1) (1 ∷ 0 ∷ 1 ∷ []) 1) 1 ≡ pos 0)
+    (engineMap (openedAs 3 1) (1 ∷ 0 ∷ 0 ∷ []) 1 ≡ three)
+    × ((engineMap (openedAs 3 1) (1 ∷ 0 ∷ 0 ∷ []) 2 ≡ three) × (engineMap (openedAs 3 1) (1 ∷ 0 ∷ 0 ∷ []) 3 ≡ three))
+Says m6 = (dxAt (engineMap (openedAs 3 1) (1 ∷ 0 ∷ 1 ∷ []) 1) 1 ≡ negsuc 0) × (dyAt (engineMap (openedAs 3 1) (1 ∷ 0 ∷ 1 ∷ []) 1) 1 ≡ pos 0)
 Says m7 = (skeletonOf ends 5 1 ≡ (0 ∷ 0 ∷ 1 ∷ 0 ∷ 0 ∷ [])) × (rebuilt ends 5 1 (0 ∷ 0 ∷ 1 ∷ 0 ∷ 0 ∷ []) ≡ (0 ∷ 1 ∷ 1 ∷ 1 ∷ 0 ∷ []))
 Says m8 = (g false 25 ≡ 16) × ((g true 25 ≡ 13) × ((g false 16 ≡ 9) × (g true 16 ≡ 8)))
 Says m9 = (radiusQ 100 25 ≡ 16) × (radiusQ 110 25 ≡ 19)

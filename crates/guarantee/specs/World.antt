@@ -68,5 +68,5 @@ left (rebuild marks out) a w = w
 left aside a w = w
 
 -- what a call leaves
-abbrev pub after : Call → World → World
-after c w = left c (answer c w) w
+abbrev pub worldAfter : Call → World → World
+worldAfter c w = left c (answer c w) w

@@ -4,11 +4,11 @@ use mathlib.Core.List.{List, []}
 use Prim.Native.Nat.{ℕ}
 use lib.IntN.{ℤ}
 use Rattle.guarantee.specs.Board.{blank}
-use Rattle.guarantee.specs.Claims.{Holds}
+use Rattle.guarantee.specs.Claims.{ClaimsHold}
 use Rattle.guarantee.proofs.Theorems.{guarantee}
-use Rattle.records.specs.Format.{Order}
-use Rattle.job.specs.Run.{startOf, callsOf}
+use Rattle.records.specs.Format.{Record}
+use Rattle.job.specs.Run.{startState, callsOf}
 
-pub every-job : (os : List Order) (sheet : List ℕ) (map scratch : List ℤ)
-    → Holds (callsOf os (startOf sheet map scratch)) blank (startOf sheet map scratch .world)
-every-job os sheet map scratch = guarantee (callsOf os (startOf sheet map scratch)) [] []
+pub every-job : (os : List Record) (sheet : List ℕ) (map scratch : List ℤ)
+    → ClaimsHold (callsOf os (startState sheet map scratch)) blank (startState sheet map scratch .world)
+every-job os sheet map scratch = guarantee (callsOf os (startState sheet map scratch)) [] []

@@ -17,8 +17,8 @@ use Rattle.session.specs.declared.Reply.{Reply}
 use Rattle.morphology.specs.Resize.{expanded, shrunk}
 use Rattle.job.specs.declared.Done.{Done}
 use Rattle.records.specs.Format.{opening, paint, erase, build, expand, shrink}
-use Rattle.job.specs.Run.{benchOf}
-use Rattle.job.specs.Obey.{upto, Obeyed, Opened, Filled, Built, Resized}
+use Rattle.job.specs.Run.{jobState}
+use Rattle.job.specs.Obey.{upto, Executed, Opened, Filled, Built, Resized}
 
 -- the first n elements, or all of them
 pub upto-take : {A : Type 0} (n : ℕ) (l : List A) {r : ℕ} → r ≡ upto n (length l) → take r l ≡ take n l
@@ -81,7 +81,7 @@ chosen f false x y = refl
 
 module _ {s : Session} {n : ℕ} {sheet : List ℕ} (map scratch : List ℤ) where
   pub open-obeyed : {w h : ℕ} {r : Done} {left : List ℕ} → Opened w h s n sheet r left
-      → Obeyed (opening w h) (benchOf s n sheet map scratch) (r .answer) (benchOf (r .session) (r .pixels) left map scratch)
+      → Executed (opening w h) (jobState s n sheet map scratch) (r .answer) (jobState (r .session) (r .pixels) left map scratch)
   open-obeyed {w} {h} {r} f = record {
     answer = rw (take-append-drop n sheet) (f .answer);
     left =
@@ -99,25 +99,25 @@ module _ {s : Session} {n : ℕ} {sheet : List ℕ} (map scratch : List ℤ) whe
   }
 
   pub paint-obeyed : {x y cols rows : ℕ} {r : Reply} {left : List ℕ} → Filled 1 x y cols rows s n sheet r left
-      → Obeyed (paint x y cols rows) (benchOf s n sheet map scratch) (r .answer) (benchOf (r .session) n left map scratch)
+      → Executed (paint x y cols rows) (jobState s n sheet map scratch) (r .answer) (jobState (r .session) n left map scratch)
   paint-obeyed f = record { answer = f .answer; left = rw (← f .answer, f .session, f .lent, f .behind) }
 
   pub erase-obeyed : {x y cols rows : ℕ} {r : Reply} {left : List ℕ} → Filled 0 x y cols rows s n sheet r left
-      → Obeyed (erase x y cols rows) (benchOf s n sheet map scratch) (r .answer) (benchOf (r .session) n left map scratch)
+      → Executed (erase x y cols rows) (jobState s n sheet map scratch) (r .answer) (jobState (r .session) n left map scratch)
   erase-obeyed f = record { answer = f .answer; left = rw (← f .answer, f .session, f .lent, f .behind) }
 
 module _ {s : Session} {n : ℕ} {sheet : List ℕ} {map scratch : List ℤ} (within : n ≤ length sheet) where
-  pub build-obeyed : {engine : ℕ} {r : Reply} {left worn : List ℤ} → Built engine s n sheet map scratch r left worn
-      → Obeyed (build engine) (benchOf s n sheet map scratch) (r .answer) (benchOf (r .session) n sheet left worn)
+  pub build-obeyed : {engine : ℕ} {r : Reply} {left used : List ℤ} → Built engine s n sheet map scratch r left used
+      → Executed (build engine) (jobState s n sheet map scratch) (r .answer) (jobState (r .session) n sheet left used)
   build-obeyed f =
       record {
         answer = rw (length-take-le n sheet within) (f .answer);
         left = rw (length-take-le n sheet within, ← f .answer, f .session, f .lent-map, f .behind-map, f .left-scratch);
       }
 
-  pub expand-obeyed : {q : ℕ} {r : Reply} {cut : List ℕ} {left worn : List ℤ}
-      → Resized q s n sheet map scratch r cut left worn (λ t. expanded (s .width) (s .height) q t)
-      → Obeyed (expand q) (benchOf s n sheet map scratch) (r .answer) (benchOf (r .session) n cut left worn)
+  pub expand-obeyed : {q : ℕ} {r : Reply} {cut : List ℕ} {left used : List ℤ}
+      → Resized q s n sheet map scratch r cut left used (λ t. expanded (s .width) (s .height) q t)
+      → Executed (expand q) (jobState s n sheet map scratch) (r .answer) (jobState (r .session) n cut left used)
   expand-obeyed f =
       record {
         answer = rw (length-take-le n sheet within) (f .answer);
@@ -125,9 +125,9 @@ module _ {s : Session} {n : ℕ} {sheet : List ℕ} {map scratch : List ℤ} (wi
             rw (length-take-le n sheet within, ← f .answer, f .session, f .lent-sheet, f .behind-sheet, f .lent-map, f .behind-map, f .left-scratch);
       }
 
-  pub shrink-obeyed : {q : ℕ} {r : Reply} {cut : List ℕ} {left worn : List ℤ}
-      → Resized q s n sheet map scratch r cut left worn (λ t. shrunk (s .width) (s .height) q t)
-      → Obeyed (shrink q) (benchOf s n sheet map scratch) (r .answer) (benchOf (r .session) n cut left worn)
+  pub shrink-obeyed : {q : ℕ} {r : Reply} {cut : List ℕ} {left used : List ℤ}
+      → Resized q s n sheet map scratch r cut left used (λ t. shrunk (s .width) (s .height) q t)
+      → Executed (shrink q) (jobState s n sheet map scratch) (r .answer) (jobState (r .session) n cut left used)
   shrink-obeyed f =
       record {
         answer = rw (length-take-le n sheet within) (f .answer);

@@ -14,37 +14,37 @@ use Rattle.session.specs.Calls.{onDone, buildScratch}
 use Rattle.session.specs.State.{fresh}
 use Rattle.raster.specs.Refusal.{firstOf}
 use Rattle.guarantee.specs.Board as calls
-use Rattle.guarantee.specs.World.{World, world, answer, after}
-use Rattle.records.specs.Format.{Order, opening, paint, erase, build, place, run, lift, expand, shrink, isJob, ordersOf}
-use Rattle.records.specs.Text.{line, textFrom}
+use Rattle.guarantee.specs.World.{World, world, answer, worldAfter}
+use Rattle.records.specs.Format.{Record, opening, paint, erase, build, place, run, lift, expand, shrink, isJob, recordsOf}
+use Rattle.records.specs.Text.{answerLine, textFrom}
 
 -- what a job is run on: the world of its list of calls, the sheet and map buffers behind the parts that are lent, and the scratch buffer
-pub record Bench : Type 0 where
+pub record JobState : Type 0 where
   pub world : World
   pub sheet : List ℕ
   pub map : List ℤ
   pub scratch : List ℤ
 
 -- a session with buffers of which the first n bytes and 2 × n numbers are lent
-abbrev pub benchOf : Session → (n : ℕ) → List ℕ → (map scratch : List ℤ) → Bench
-benchOf s n sheet map scratch =
+abbrev pub jobState : Session → (n : ℕ) → List ℕ → (map scratch : List ℤ) → JobState
+jobState s n sheet map scratch =
     record { world = world s (take n sheet) (take (2 * n) map); sheet = drop n sheet; map = drop (2 * n) map; scratch = scratch }
 
 -- the whole buffers
-abbrev pub sheetOf : Bench → List ℕ
-sheetOf b = b .world .sheet ++ b .sheet
+abbrev pub sheetBuffer : JobState → List ℕ
+sheetBuffer b = b .world .sheet ++ b .sheet
 
-abbrev pub mapOf : Bench → List ℤ
-mapOf b = b .world .map ++ b .map
+abbrev pub mapBuffer : JobState → List ℤ
+mapBuffer b = b .world .map ++ b .map
 
 -- the scratch that goes with the open sheet
-abbrev pub lentScratch : Bench → List ℤ
+abbrev pub lentScratch : JobState → List ℤ
 lentScratch b = take (length (b .world .sheet)) (b .scratch)
 
 -- the call that a record means: an opening comes with the first w × h bytes and 2 × w × h numbers, or with the whole of a shorter buffer
-abbrev pub callOf : Order → Bench → calls.Call
+abbrev pub callOf : Record → JobState → calls.Call
 callOf (opening w h) b =
-    calls.opening w h (some (record { sheet = take (h * w) (sheetOf b); map = take (2 * (h * w)) (mapOf b) }))
+    calls.opening w h (some (record { sheet = take (h * w) (sheetBuffer b); map = take (2 * (h * w)) (mapBuffer b) }))
 callOf (paint x y c r) b = calls.paint x y c r
 callOf (erase x y c r) b = calls.erase x y c r
 callOf (build e) b = calls.build e (lentScratch b)
@@ -55,8 +55,8 @@ callOf (expand q) b = calls.expand q (lentScratch b)
 callOf (shrink q) b = calls.shrink q (lentScratch b)
 
 -- behind the lent parts, after a record with its answer: an opening that is done takes other parts
-abbrev pub sheetBehind : Order → (answer : ℕ) → Bench → List ℕ
-sheetBehind (opening w h) a b = onDone a (drop (h * w) (sheetOf b)) (b .sheet)
+abbrev pub sheetBehind : Record → (answer : ℕ) → JobState → List ℕ
+sheetBehind (opening w h) a b = onDone a (drop (h * w) (sheetBuffer b)) (b .sheet)
 sheetBehind (paint x y c r) a b = b .sheet
 sheetBehind (erase x y c r) a b = b .sheet
 sheetBehind (build e) a b = b .sheet
@@ -66,8 +66,8 @@ sheetBehind lift a b = b .sheet
 sheetBehind (expand q) a b = b .sheet
 sheetBehind (shrink q) a b = b .sheet
 
-abbrev pub mapBehind : Order → (answer : ℕ) → Bench → List ℤ
-mapBehind (opening w h) a b = onDone a (drop (2 * (h * w)) (mapOf b)) (b .map)
+abbrev pub mapBehind : Record → (answer : ℕ) → JobState → List ℤ
+mapBehind (opening w h) a b = onDone a (drop (2 * (h * w)) (mapBuffer b)) (b .map)
 mapBehind (paint x y c r) a b = b .map
 mapBehind (erase x y c r) a b = b .map
 mapBehind (build e) a b = b .map
@@ -78,7 +78,7 @@ mapBehind (expand q) a b = b .map
 mapBehind (shrink q) a b = b .map
 
 -- the scratch buffer after a record with its answer
-abbrev pub scratchAfter : Order → (answer : ℕ) → Bench → List ℤ
+abbrev pub scratchAfter : Record → (answer : ℕ) → JobState → List ℤ
 scratchAfter (build e) a b = buildScratch (b .world .session) (lentScratch b) e a ++ drop (length (b .world .sheet)) (b .scratch)
 scratchAfter (expand q) a b =
     onDone a (cleared (b .world .session .height * b .world .session .width) (lentScratch b)) (lentScratch b)
@@ -94,14 +94,14 @@ scratchAfter (run d n) a b = b .scratch
 scratchAfter lift a b = b .scratch
 
 -- what a record answers
-abbrev pub answerOf : Order → Bench → ℕ
+abbrev pub answerOf : Record → JobState → ℕ
 answerOf o b = answer (callOf o b) (b .world)
 
 -- what it leaves
-abbrev pub stepped : Order → Bench → Bench
+abbrev pub stepped : Record → JobState → JobState
 stepped o b =
     record {
-      world = after (callOf o b) (b .world);
+      world = worldAfter (callOf o b) (b .world);
       sheet = sheetBehind o (answerOf o b) b;
       map = mapBehind o (answerOf o b) b;
       scratch = scratchAfter o (answerOf o b) b;
@@ -110,46 +110,46 @@ stepped o b =
 -- ---- a list of records
 
 -- the calls that they mean, each on what those before it leave
-unfoldable pub callsOf : List Order → Bench → List calls.Call
+unfoldable pub callsOf : List Record → JobState → List calls.Call
 callsOf [] b = []
 callsOf (o ∷ rest) b = callOf o b ∷ callsOf rest (stepped o b)
 
 -- what they leave
-unfoldable pub benchAfter : List Order → Bench → Bench
-benchAfter [] b = b
-benchAfter (o ∷ rest) b = benchAfter rest (stepped o b)
+unfoldable pub stateAfter : List Record → JobState → JobState
+stateAfter [] b = b
+stateAfter (o ∷ rest) b = stateAfter rest (stepped o b)
 
 -- the answers of a list of calls
 unfoldable pub answersOf : List calls.Call → World → List ℕ
 answersOf [] w = []
-answersOf (c ∷ rest) w = answer c w ∷ answersOf rest (after c w)
+answersOf (c ∷ rest) w = answer c w ∷ answersOf rest (worldAfter c w)
 
 -- ---- a job, from a fresh session
 
 -- nothing of the buffers is lent yet
-abbrev pub startOf : List ℕ → (map scratch : List ℤ) → Bench
-startOf sheet map scratch = benchOf fresh 0 sheet map scratch
+abbrev pub startState : List ℕ → (map scratch : List ℤ) → JobState
+startState sheet map scratch = jobState fresh 0 sheet map scratch
 
 -- the lines of its records, numbered from 1
-unfoldable pub reportOf : List Order → Bench → List ℕ
+unfoldable pub reportOf : List Record → JobState → List ℕ
 reportOf os b = textFrom 1 (answersOf (callsOf os b) (b .world))
 
 -- the text that the program prints: a job that does not split is `0 19` alone
-unfoldable pub textOf : List ℕ → Bench → List ℕ
-textOf job b = cond (isJob job) (reportOf (ordersOf job) b) (line 0 19)
+unfoldable pub textOf : List ℕ → JobState → List ℕ
+textOf job b = cond (isJob job) (reportOf (recordsOf job) b) (answerLine 0 19)
 
 -- the room that its text may need: nine bytes a record, or five
 unfoldable pub roomFor : List ℕ → ℕ
-roomFor job = cond (isJob job) (9 * length (ordersOf job)) 5
+roomFor job = cond (isJob job) (9 * length (recordsOf job)) 5
 
 -- 12 if the text may not fit, 19 if the job does not split; neither runs anything
 unfoldable pub ranAnswer : (job out : List ℕ) → ℕ
 ranAnswer job out = firstOf ((ltb (length out) (roomFor job), 12) ∷ (not (isJob job), 19) ∷ [])
 
 -- the text stands at the front of the output buffer, unless it may not fit
-unfoldable pub printed : (job : List ℕ) → Bench → (out : List ℕ) → List ℕ
+unfoldable pub printed : (job : List ℕ) → JobState → (out : List ℕ) → List ℕ
 printed job b out = cond (eqb (ranAnswer job out) 12) [] (textOf job b)
 
 -- what is left in the buffers
-unfoldable pub benchLeft : (job out : List ℕ) → Bench → Bench
-benchLeft job out b = onDone (ranAnswer job out) (benchAfter (ordersOf job) b) b
+unfoldable pub stateLeft : (job out : List ℕ) → JobState → JobState
+stateLeft job out b = onDone (ranAnswer job out) (stateAfter (recordsOf job) b) b

@@ -33,12 +33,12 @@ use Rattle.session.specs.Calls.{
 use Rattle.guarantee.specs.Board as calls
 use Rattle.guarantee.specs.Claims.{leftBy}
 use Rattle.guarantee.specs.World.{World, answer}
-use Rattle.records.specs.Format.{Order, sizeHere, Here, orderHere, ordersIn, isJob, ordersOf}
-use Rattle.records.specs.FormatLaws.{here, size-fits, splits-turn, orders-turn, splits-not, orders-end}
-use Rattle.records.specs.Text.{line, textFrom, Put}
+use Rattle.records.specs.Format.{Record, lengthHere, Here, recordHere, recordsIn, isJob, recordsOf}
+use Rattle.records.specs.FormatLaws.{here, size-fits, splits-turn, records-turn, splits-not, records-end}
+use Rattle.records.specs.Text.{answerLine, textFrom, Put}
 use Rattle.records.specs.TextLaws.{nine-bytes}
-use Rattle.job.specs.Run.{Bench, benchOf, callOf, callsOf, benchAfter, answersOf, reportOf, stepped, roomFor, ranAnswer}
-use Rattle.job.specs.Obey.{Obeyed, Left, Running}
+use Rattle.job.specs.Run.{JobState, jobState, callOf, callsOf, stateAfter, answersOf, reportOf, stepped, roomFor, ranAnswer}
+use Rattle.job.specs.Obey.{Executed, Left, Running}
 
 -- ---- no answer has more than two digits
 
@@ -72,12 +72,12 @@ pub job-limit : (job : List ℕ) → isJob job ≡ true → length job ≤ 65536
 unfolding isJob
 job-limit job is = leb-true (length job) 65536 (and-left (leb (length job) 65536) _ is)
 
-pub running-start : (job : List ℕ) (start : Bench) (out : List ℕ) → isJob job ≡ true → Running job start out 0 0 0 start out
-unfolding isJob ordersOf reportOf
+pub running-start : (job : List ℕ) (start : JobState) (out : List ℕ) → isJob job ≡ true → Running job start out 0 0 0 start out
+unfolding isJob recordsOf reportOf
 running-start job start out is =
     let z : length job - 0 ≡ length job = omega arith in record {
       splitting = rw z (and-right (leb (length job) 65536) _ is);
-      bench = rw z;
+      state = rw z;
       text = rw z;
       back = refl;
       count = rw z (omega arith);
@@ -85,17 +85,17 @@ running-start job start out is =
       short = omega arith;
     }
 
-module _ {job : List ℕ} {start : Bench} {empty : List ℕ} {i at end : ℕ} {b : Bench} {out : List ℕ} (r : Running job start empty i at end b out) where
+module _ {job : List ℕ} {start : JobState} {empty : List ℕ} {i at end : ℕ} {b : JobState} {out : List ℕ} (r : Running job start empty i at end b out) where
   module _ (more : at < length job) where
-    some-size : {size : ℕ} → size ≡ sizeHere (drop at job) → size ≡ 0 → ⊥
+    some-size : {size : ℕ} → size ≡ lengthHere (drop at job) → size ≡ 0 → ⊥
     some-size is z = false≢true (sym (splits-not job i at is more (r .begun .0) z) ∙ r .splitting)
 
     -- the record ends within the job
-    pub running-size : {size : ℕ} → size ≡ sizeHere (drop at job) → (1 ≤ size) × (at + size ≤ length job)
+    pub running-size : {size : ℕ} → size ≡ lengthHere (drop at job) → (1 ≤ size) × (at + size ≤ length job)
     running-size is = (omega (arith, some-size is), omega (arith, size-fits (drop at job), length-drop at job, is))
 
     -- its line has at most nine bytes
-    pub running-line : {o : Order} {a : ℕ} {next : Bench} → isJob job ≡ true → Obeyed o b a next → length (line (i + 1) a) ≤ 9
+    pub running-line : {o : Record} {a : ℕ} {next : JobState} → isJob job ≡ true → Executed o b a next → length (answerLine (i + 1) a) ≤ 9
     running-line {o} {a} is ob =
         nine-bytes (i + 1) a (omega (arith, job-limit job is, r .begun .0)) (omega (arith, ob .answer, two-digits (callOf o b) (b .world)))
 
@@ -103,49 +103,49 @@ module _ {job : List ℕ} {start : Bench} {empty : List ℕ} {i at end : ℕ} {b
     running-here = here (drop at job) refl (some-size refl)
 
     -- the next line has its room
-    pub running-room : {text : ℕ} → 9 * length (ordersOf job) ≤ length out → text ≤ 9 → end + text ≤ length out
+    pub running-room : {text : ℕ} → 9 * length (recordsOf job) ≤ length out → text ≤ 9 → end + text ≤ length out
     running-room fits short =
-        let o = orders-turn job i at refl more (r .begun .0) in
+        let o = records-turn job i at refl more (r .begun .0) in
         omega (arith, r .count, ap length o, r .short, fits, short)
 
-    pub running-turn : {size a e : ℕ} {next : Bench} {written : List ℕ} → size ≡ sizeHere (drop at job)
-        → Obeyed (orderHere (drop at job)) b a next → Put out end (line (i + 1) a) e written → length (line (i + 1) a) ≤ 9
+    pub running-turn : {size a e : ℕ} {next : JobState} {written : List ℕ} → size ≡ lengthHere (drop at job)
+        → Executed (recordHere (drop at job)) b a next → Put out end (answerLine (i + 1) a) e written → length (answerLine (i + 1) a) ≤ 9
         → Running job start empty (i + 1) (at + size) e next written
-    unfolding callsOf benchAfter answersOf textFrom
+    unfolding callsOf stateAfter answersOf textFrom
     running-turn {size} {a} {e} {next} {written} is ob p short =
         let some = some-size is in
-        let o = orders-turn job i at is more (r .begun .0) in record {
+        let o = records-turn job i at is more (r .begun .0) in record {
           splitting = sym (splits-turn job i at is more (r .begun .0) some) ∙ r .splitting;
-          bench = rw (ob .left) (rw o at (r .bench));
+          state = rw (ob .left) (rw o at (r .state));
           text = rw (p .front, append-assoc, ob .left, ob .answer) (rw o at (r .text));
           back =
-              let n : e ≡ end + length (line (i + 1) a) = p .ends in
-              p .back ∙ rw n (sym (drop-drop (length (line (i + 1) a)) end out) ∙ ap (drop (length (line (i + 1) a))) (r .back) ∙ drop-drop (length (line (i + 1) a)) end empty);
+              let n : e ≡ end + length (answerLine (i + 1) a) = p .ends in
+              p .back ∙ rw n (sym (drop-drop (length (answerLine (i + 1) a)) end out) ∙ ap (drop (length (answerLine (i + 1) a))) (r .back) ∙ drop-drop (length (answerLine (i + 1) a)) end empty);
           count = omega (arith, r .count, ap length o);
           begun = (omega (arith, r .begun .0, some), running-size is .1);
           short = omega (arith, p .ends, r .short);
         }
 
   module _ (done : length job ≤ at) where
-    none-left : ordersIn (length job - i) (drop at job) ≡ []
-    none-left = orders-end (length job - i) (drop at job) (omega (arith, length-drop at job))
+    none-left : recordsIn (length job - i) (drop at job) ≡ []
+    none-left = records-end (length job - i) (drop at job) (omega (arith, length-drop at job))
 
-    pub running-end : 9 * length (ordersOf job) ≤ length out → Put empty 0 (reportOf (ordersOf job) start) end out
+    pub running-end : 9 * length (recordsOf job) ≤ length out → Put empty 0 (reportOf (recordsOf job) start) end out
     unfolding callsOf answersOf textFrom
     running-end fits =
-        let t : take end out ≡ reportOf (ordersOf job) start = sym (append-nil (take end out)) ∙ (rw none-left at (r .text)) in
+        let t : take end out ≡ reportOf (recordsOf job) start = sym (append-nil (take end out)) ∙ (rw none-left at (r .text)) in
         let within : end ≤ length out = omega (arith, r .short, r .count, fits) in record {
           ends = omega (arith, length-take-le end out within, ap length t);
           front = t;
           back = r .back;
         }
 
-    pub running-left : b ≡ benchAfter (ordersOf job) start
-    unfolding benchAfter
-    running-left = rw none-left at (r .bench)
+    pub running-left : b ≡ stateAfter (recordsOf job) start
+    unfolding stateAfter
+    running-left = rw none-left at (r .state)
 
 -- the buffers that a session works on
-pub buffers : {t : Bench} (s : Session) (n : ℕ) (sheet : List ℕ) (map scratch : List ℤ) → benchOf s n sheet map scratch ≡ t → Left t sheet map scratch
+pub buffers : {t : JobState} (s : Session) (n : ℕ) (sheet : List ℕ) (map scratch : List ℤ) → jobState s n sheet map scratch ≡ t → Left t sheet map scratch
 buffers s n sheet map scratch e = record {
   sheet-left = rw (← e) (sym (take-append-drop n sheet));
   map-left = rw (← e) (sym (take-append-drop (2 * n) map));
@@ -163,16 +163,16 @@ module _ (job out : List ℕ) where
   unfolding ranAnswer roomFor firstOf
   not-split is h = rw (is, le-ltb (length out) 5 h)
 
-  pub no-room-to-run : isJob job ≡ true → length out < 9 * length (ordersOf job) → ranAnswer job out ≡ 12
+  pub no-room-to-run : isJob job ≡ true → length out < 9 * length (recordsOf job) → ranAnswer job out ≡ 12
   unfolding ranAnswer roomFor firstOf
-  no-room-to-run is h = rw (is, lt-ltb (length out) (9 * length (ordersOf job)) h)
+  no-room-to-run is h = rw (is, lt-ltb (length out) (9 * length (recordsOf job)) h)
 
-  pub run-whole : isJob job ≡ true → 9 * length (ordersOf job) ≤ length out → ranAnswer job out ≡ 0
+  pub run-whole : isJob job ≡ true → 9 * length (recordsOf job) ≤ length out → ranAnswer job out ≡ 0
   unfolding ranAnswer roomFor firstOf
-  run-whole is h = rw (is, le-ltb (length out) (9 * length (ordersOf job)) h)
+  run-whole is h = rw (is, le-ltb (length out) (9 * length (recordsOf job)) h)
 
 -- the theorem: what the records leave is what the list of their calls leaves, of which demand 3 speaks
-pub calls-leave : (os : List Order) (b : Bench) → benchAfter os b .world ≡ leftBy (callsOf os b) (b .world)
-unfolding benchAfter callsOf
+pub calls-leave : (os : List Record) (b : JobState) → stateAfter os b .world ≡ leftBy (callsOf os b) (b .world)
+unfolding stateAfter callsOf
 calls-leave [] b = refl
 calls-leave (o ∷ rest) b = calls-leave rest (stepped o b)

@@ -6,10 +6,10 @@ ghost use lib.ListN.{length, take, drop};
 ghost use Rattle.morphology.specs.Resize.{expanded, shrunk};
 ghost use Rattle.session.specs.State.{downAt};
 ghost use Rattle.session.specs.Calls.{onDone, placeAnswer, runAnswer, runSession};
-ghost use Rattle.records.specs.Format.{Here, word, long, orderHere, isJob, ordersOf};
+ghost use Rattle.records.specs.Format.{Here, word, long, recordHere, isJob, recordsOf};
 ghost use Rattle.records.specs.Text.{written, Put};
-ghost use Rattle.job.specs.Run.{benchOf, startOf, sheetOf, mapOf, reportOf, benchAfter, ranAnswer, printed, benchLeft};
-ghost use Rattle.job.specs.Obey.{upto, Obeyed, Left, Opened, Filled, Built, Resized};
+ghost use Rattle.job.specs.Run.{jobState, startState, sheetBuffer, mapBuffer, reportOf, stateAfter, ranAnswer, printed, stateLeft};
+ghost use Rattle.job.specs.Obey.{upto, Executed, Left, Opened, Filled, Built, Resized};
 use session::Reply;
 use session::Session;
 
@@ -118,11 +118,11 @@ fn obey_build(
 {
     let engine = records::word_at(job, at, 4);
     let numbers = first_pairs(n, map.len());
-    let worn = first(n, scratch.len());
+    let used = first(n, scratch.len());
     s.build(
         &sheet[..n],
         &mut map[..numbers],
-        &mut scratch[..worn],
+        &mut scratch[..used],
         engine,
     )
 }
@@ -167,11 +167,11 @@ fn obey_expand(
 {
     let q = records::long_at(job, at, 4);
     let numbers = first_pairs(n, map.len());
-    let worn = first(n, scratch.len());
+    let used = first(n, scratch.len());
     s.expand(
         &mut sheet[..n],
         &mut map[..numbers],
-        &mut scratch[..worn],
+        &mut scratch[..used],
         q,
     )
 }
@@ -191,11 +191,11 @@ fn obey_shrink(
 {
     let q = records::long_at(job, at, 4);
     let numbers = first_pairs(n, map.len());
-    let worn = first(n, scratch.len());
+    let used = first(n, scratch.len());
     s.shrink(
         &mut sheet[..n],
         &mut map[..numbers],
-        &mut scratch[..worn],
+        &mut scratch[..used],
         q,
     )
 }
@@ -211,7 +211,7 @@ fn act(
     scratch: &mut [i16],
 ) -> Reply
     requires { ⌜ Here (drop at (now job)) × ((2 ≤ word (drop at (now job)) 2) × (n ≤ length (now sheet))) ⌝ }
-    ensures { λ r. ⌜ Obeyed (orderHere (drop at (now (job .entry)))) (benchOf s n (now (sheet .entry)) (now (map .entry)) (now (scratch .entry))) (r .answer) (benchOf (r .session) n (now (sheet .exit)) (now (map .exit)) (now (scratch .exit))) ⌝ }
+    ensures { λ r. ⌜ Executed (recordHere (drop at (now (job .entry)))) (jobState s n (now (sheet .entry)) (now (map .entry)) (now (scratch .entry))) (r .answer) (jobState (r .session) n (now (sheet .exit)) (now (map .exit)) (now (scratch .exit))) ⌝ }
 {
     let kind = records::word_at(job, at, 2);
     if kind == 2 {
@@ -249,7 +249,7 @@ fn obey(
     scratch: &mut [i16],
 ) -> Done
     requires { ⌜ Here (drop at (now job)) × (n ≤ length (now sheet)) ⌝ }
-    ensures { λ r. ⌜ Obeyed (orderHere (drop at (now (job .entry)))) (benchOf s n (now (sheet .entry)) (now (map .entry)) (now (scratch .entry))) (r .answer) (benchOf (r .session) (r .pixels) (now (sheet .exit)) (now (map .exit)) (now (scratch .exit))) ⌝ }
+    ensures { λ r. ⌜ Executed (recordHere (drop at (now (job .entry)))) (jobState s n (now (sheet .entry)) (now (map .entry)) (now (scratch .entry))) (r .answer) (jobState (r .session) (r .pixels) (now (sheet .exit)) (now (map .exit)) (now (scratch .exit))) ⌝ }
     ensures { λ r. ⌜ r .pixels ≤ length (now (sheet .exit)) ⌝ }
 {
     if records::word_at(job, at, 2) == 1 {
@@ -272,9 +272,9 @@ fn run_all(
     scratch: &mut [i16],
     out: &mut [u8],
 ) -> usize
-    requires { ⌜ (isJob (now job) ≡ true) × (9 * length (ordersOf (now job)) ≤ length (now out)) ⌝ }
-    ensures { λ r. ⌜ Put (now (out .entry)) 0 (reportOf (ordersOf (now (job .entry))) (startOf (now (sheet .entry)) (now (map .entry)) (now (scratch .entry)))) r (now (out .exit)) ⌝ }
-    ensures { λ r. ⌜ Left (benchAfter (ordersOf (now (job .entry))) (startOf (now (sheet .entry)) (now (map .entry)) (now (scratch .entry)))) (now (sheet .exit)) (now (map .exit)) (now (scratch .exit)) ⌝ }
+    requires { ⌜ (isJob (now job) ≡ true) × (9 * length (recordsOf (now job)) ≤ length (now out)) ⌝ }
+    ensures { λ r. ⌜ Put (now (out .entry)) 0 (reportOf (recordsOf (now (job .entry))) (startState (now (sheet .entry)) (now (map .entry)) (now (scratch .entry)))) r (now (out .exit)) ⌝ }
+    ensures { λ r. ⌜ Left (stateAfter (recordsOf (now (job .entry))) (startState (now (sheet .entry)) (now (map .entry)) (now (scratch .entry)))) (now (sheet .exit)) (now (map .exit)) (now (scratch .exit)) ⌝ }
 {
     let mut s = Session::fresh();
     let mut n = 0;
@@ -285,7 +285,7 @@ fn run_all(
         let done = obey(s, n, job, at, sheet, map, scratch);
         i += 1;
         end = records::put_line(out, end, i, done.answer);
-        at += records::size_at(job, at);
+        at += records::length_at(job, at);
         n = done.pixels;
         let session = done.session;
         s = session;
@@ -303,11 +303,11 @@ pub fn run(
     out: &mut [u8],
 ) -> Ran
     ensures { λ r. ⌜ r .answer ≡ ranAnswer (now (job .entry)) (now (out .entry)) ⌝ }
-    ensures { λ r. ⌜ r .written ≡ length (printed (now (job .entry)) (startOf (now (sheet .entry)) (now (map .entry)) (now (scratch .entry))) (now (out .entry))) ⌝ }
-    ensures { λ r. ⌜ now (out .exit) ≡ written (printed (now (job .entry)) (startOf (now (sheet .entry)) (now (map .entry)) (now (scratch .entry))) (now (out .entry))) (now (out .entry)) ⌝ }
-    ensures { λ r. ⌜ now (sheet .exit) ≡ sheetOf (benchLeft (now (job .entry)) (now (out .entry)) (startOf (now (sheet .entry)) (now (map .entry)) (now (scratch .entry)))) ⌝ }
-    ensures { λ r. ⌜ now (map .exit) ≡ mapOf (benchLeft (now (job .entry)) (now (out .entry)) (startOf (now (sheet .entry)) (now (map .entry)) (now (scratch .entry)))) ⌝ }
-    ensures { λ r. ⌜ now (scratch .exit) ≡ benchLeft (now (job .entry)) (now (out .entry)) (startOf (now (sheet .entry)) (now (map .entry)) (now (scratch .entry))) .scratch ⌝ }
+    ensures { λ r. ⌜ r .written ≡ length (printed (now (job .entry)) (startState (now (sheet .entry)) (now (map .entry)) (now (scratch .entry))) (now (out .entry))) ⌝ }
+    ensures { λ r. ⌜ now (out .exit) ≡ written (printed (now (job .entry)) (startState (now (sheet .entry)) (now (map .entry)) (now (scratch .entry))) (now (out .entry))) (now (out .entry)) ⌝ }
+    ensures { λ r. ⌜ now (sheet .exit) ≡ sheetBuffer (stateLeft (now (job .entry)) (now (out .entry)) (startState (now (sheet .entry)) (now (map .entry)) (now (scratch .entry)))) ⌝ }
+    ensures { λ r. ⌜ now (map .exit) ≡ mapBuffer (stateLeft (now (job .entry)) (now (out .entry)) (startState (now (sheet .entry)) (now (map .entry)) (now (scratch .entry)))) ⌝ }
+    ensures { λ r. ⌜ now (scratch .exit) ≡ stateLeft (now (job .entry)) (now (out .entry)) (startState (now (sheet .entry)) (now (map .entry)) (now (scratch .entry))) .scratch ⌝ }
 {
     let counted = records::split(job);
     if counted.answer != 0 {

@@ -11,7 +11,7 @@ use borrow.Author.Tests.{leb-true, le-leb, lt-leb}
 use Rattle.raster.specs.Distance.{apart, Near}
 use Rattle.raster.specs.DistanceLaws.{apart-self}
 use Rattle.raster.specs.Limits.{maxSide, maxQ}
-use Rattle.raster.specs.LoopLaws.{some-found, some-true}
+use Rattle.raster.specs.LoopLaws.{any-found, any-true}
 use Rattle.raster.specs.Map.{dxAt, dyAt}
 use Rattle.raster.specs.Pixels.{Mask, index}
 use Rattle.raster.specs.Tests.{and-left, and-right, same}
@@ -25,17 +25,17 @@ module _ (copper : Mask) (w h q x y : ℕ) where
   pub near-found : near copper w h q x y ≡ true → Near copper w h x y q
   unfolding near
   near-found e =
-      let c = some-found w _ e in
-      let r = some-found h _ (c .passes) in record {
-        column = c .place;
-        row = r .place;
-        copper = record { across = c .below; down = r .below; metal = and-left _ _ (r .passes) };
-        within = leb-true _ q (and-right (copper (c .place) (r .place)) _ (r .passes));
+      let c = any-found w _ e in
+      let r = any-found h _ (c .passes) in record {
+        column = c .witness;
+        row = r .witness;
+        copper = record { across = c .below; down = r .below; is-copper = and-left _ _ (r .passes) };
+        within = leb-true _ q (and-right (copper (c .witness) (r .witness)) _ (r .passes));
       }
 
   pub near-true : Near copper w h x y q → near copper w h q x y ≡ true
   unfolding near
-  near-true n = some-true w _ (n .column) (n .copper .across) (some-true h _ (n .row) (n .copper .down) (simp (n .copper .metal, le-leb (apart x y (n .column) (n .row)) q (n .within))))
+  near-true n = any-true w _ (n .column) (n .copper .across) (any-true h _ (n .row) (n .copper .down) (simp (n .copper .is-copper, le-leb (apart x y (n .column) (n .row)) q (n .within))))
 
   pub near-false : (Near copper w h x y q → ⊥) → near copper w h q x y ≡ false
   near-false far = same (near copper w h q x y) false (λ e. absurd (far (near-found e))) (λ e. absurd (false≢true e))
@@ -53,7 +53,7 @@ module _ (copper : Mask) (w h q x y : ℕ) where
     where
       go : Exact copper w h x y vx vy → leb (size vx vy) q ≡ near copper w h q x y
       go (to-nearest i j n e) = elim (decLe (size vx vy) q) [
-        | yes l ↦ le-leb _ q l ∙ sym (near-true (record { column = i; row = j; copper = n .metal; within = omega (arith, ends-size e) }))
+        | yes l ↦ le-leb _ q l ∙ sym (near-true (record { column = i; row = j; copper = n .on-copper; within = omega (arith, ends-size e) }))
         | no l ↦ lt-leb _ q (omega arith) ∙ sym (near-false (λ c. omega (arith, ends-size e, c .within, n .least (c .column) (c .row) (c .copper))))
       ]
       go (bare-sheet bare u) =
@@ -65,4 +65,4 @@ stays-is copper w h q x y across down = go (copper x y) refl
   where
     go : (t : Bool) → copper x y ≡ t → t && not (near (bareOf copper) w h q x y) ≡ not (near (bareOf copper) w h q x y)
     go true e = refl
-    go false e = rw (near-true (bareOf copper) w h q x y (record { column = x; row = y; copper = record { across = across; down = down; metal = rw e }; within = omega (arith, apart-self x y) }))
+    go false e = rw (near-true (bareOf copper) w h q x y (record { column = x; row = y; copper = record { across = across; down = down; is-copper = rw e }; within = omega (arith, apart-self x y) }))

@@ -39,7 +39,7 @@ near-same a b w h q x y agree =
     moved : (a b : Mask) → ((i j : ℕ) → i < w → j < h → a i j ≡ b i j) → Near a w h x y q → Near b w h x y q
     moved a b agree n =
         let c = n .copper in
-        record { column = n .column; row = n .row; copper = record { across = c .across; down = c .down; metal = sym (agree (n .column) (n .row) (c .across) (c .down)) ∙ c .metal }; within = n .within }
+        record { column = n .column; row = n .row; copper = record { across = c .across; down = c .down; is-copper = sym (agree (n .column) (n .row) (c .across) (c .down)) ∙ c .is-copper }; within = n .within }
 
 -- ---- by the sizes
 

@@ -5,13 +5,13 @@ use mathlib.Core.List.{List}
 use Prim.Native.Nat.{ℕ}
 use lib.Dec.{leb}
 use Rattle.raster.specs.Distance.{apart}
-use Rattle.raster.specs.Loop.{some}
+use Rattle.raster.specs.Loop.{anyBelow}
 use Rattle.raster.specs.Pixels.{Mask, pixels}
 use Rattle.raster.specs.Sheet.{copperOf}
 
 -- the true squared distance of (x, y) is at most q: some copper pixel is that near
 unfoldable pub near : (copper : Mask) (w h q : ℕ) → Mask
-near copper w h q x y = some w (λ i. some h (λ j. copper i j && leb (apart x y i j) q))
+near copper w h q x y = anyBelow w (λ i. anyBelow h (λ j. copper i j && leb (apart x y i j) q))
 
 -- the pixels without copper
 abbrev pub bareOf : Mask → Mask

@@ -15,11 +15,11 @@ fn flip(sheet: &mut [u8])
     ensures { λ _. ⌜ now (sheet .exit) ≡ flipped (now (sheet .entry)) ⌝ }
 {
     for p in 0..sheet.len() {
-        sheet[p] = turn(sheet[p]);
+        sheet[p] = inverted(sheet[p]);
     }
 }
 
-fn turn(byte: u8) -> u8
+fn inverted(byte: u8) -> u8
     ensures { λ r. ⌜ r ≡ turned byte ⌝ }
 {
     if byte == 0 {
@@ -36,7 +36,7 @@ fn level(map: &[i16], p: usize, q: u32, near: u8) -> u8
     if raster::size_at(map, p) <= q {
         return near;
     }
-    turn(near)
+    inverted(near)
 }
 
 // Every pixel of the sheet by the size at it.

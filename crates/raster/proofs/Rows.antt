@@ -11,13 +11,13 @@ use Rattle.raster.proofs.Writing.{set-more}
 
 module _ {base : ℕ} {f : ℕ → ℕ} {before : List ℕ} where
   pub row-none : RowWritten base 0 f before before
-  row-none = record { long = refl; here = λ x l. absurd (omega arith); under = λ p l. refl; over = λ p l. refl }
+  row-none = record { long = refl; here = λ x l. absurd (omega arith); low-kept = λ p l. refl; high-kept = λ p l. refl }
 
   pub row-more : {n v : ℕ} {after : List ℕ} → RowWritten base n f before after → base + n < length before → v ≡ f n
       → RowWritten base (n + 1) f before (set after (base + n) v)
   row-more {n} {v} {after} r l e = record {
     long = length-set after (base + n) v ∙ r .long;
     here = set-more 0 (λ x u. u ≡ f x) (λ x. base + x) after (omega (arith, r .long)) (λ x m. omega arith) e (r .here);
-    under = λ p m. getD-set-other after (base + n) p v 0 (omega arith) ∙ r .under p m;
-    over = λ p m. getD-set-other after (base + n) p v 0 (omega arith) ∙ r .over p (omega arith);
+    low-kept = λ p m. getD-set-other after (base + n) p v 0 (omega arith) ∙ r .low-kept p m;
+    high-kept = λ p m. getD-set-other after (base + n) p v 0 (omega arith) ∙ r .high-kept p (omega arith);
   }

@@ -12,7 +12,7 @@ use mir.Syntax.{w16, w32}
 use mir.Val.{SFits, Fits, ofZ}
 use borrow.Author.Tests.{eq-eqb, ne-eqb, eqb-true}
 use Rattle.raster.specs.Tests.{same}
-use Rattle.raster.specs.Vector.{Short, Wide, Step, isMark, inRange}
+use Rattle.raster.specs.Vector.{Short, Wide, UnitStep, isMark, inRange}
 use Rattle.raster.specs.VectorLaws.{add-abs}
 
 -- what 16 bits hold, 32 bits hold
@@ -58,7 +58,7 @@ pub short-wide : (z : ℤ) → Short z → natAbs z ≤ 32768
 short-wide (pos n) s = omega arith
 short-wide (negsuc n) s = omega arith
 
-pub sum-wide : (a b : ℤ) → Short a → Step b → Wide (a +ℤ b)
+pub sum-wide : (a b : ℤ) → Short a → UnitStep b → Wide (a +ℤ b)
 sum-wide a b f g = omega (arith, add-abs a b, short-wide a f)
 
 pub wide-fits : (z : ℤ) → Wide z → SFits w32 z

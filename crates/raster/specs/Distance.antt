@@ -19,7 +19,7 @@ apart x y i j = gap x i * gap x i + gap y j * gap y j
 pub record Copper (m : Mask) (w h x y : ℕ) : Type 0 where
   pub across : x < w
   pub down : y < h
-  pub metal : m x y ≡ true
+  pub is-copper : m x y ≡ true
 
 -- every copper pixel is at squared distance above q from (x, y)
 abbrev pub Clear : (m : Mask) (w h x y q : ℕ) → Type 0

@@ -28,4 +28,4 @@ failed-within g a q p = ltb-false (g .num * q) (g .den * a) p
 
 -- it fails at a vector that ends on copper: some copper is within the fraction of q
 pub failed-near : (g : Gate) {copper : Mask} {w h x y q : ℕ} {dx dy : ℤ} → Target copper w h x y dx dy → passes g (size dx dy) q ≡ false → NearBy g copper w h x y q
-failed-near g t p = record { column = t .column; row = t .row; copper = t .metal; within = rw (← ends-size (t .ends)) (failed-within g _ _ p) }
+failed-near g t p = record { column = t .column; row = t .row; copper = t .on-copper; within = rw (← ends-size (t .ends)) (failed-within g _ _ p) }

@@ -13,6 +13,6 @@ module _ {S : Type 0} (f : ℕ → S → S) where
   descend (suc n) s = descend n (f n s)
 
 -- some place below n passes the test
-unfoldable pub some : ℕ → (ℕ → Bool) → Bool
-some zero f = false
-some (suc n) f = f n || some n f
+unfoldable pub anyBelow : ℕ → (ℕ → Bool) → Bool
+anyBelow zero f = false
+anyBelow (suc n) f = f n || anyBelow n f

@@ -6,7 +6,7 @@ use mathlib.Core.List.{List}
 use lib.Dec.{eqb}
 use lib.IntN.{ℤ, pos}
 use lib.ListN.{length, getD, set, replicate}
-use Rattle.raster.specs.Loop.{some}
+use Rattle.raster.specs.Loop.{anyBelow}
 use Rattle.raster.specs.Pixels.{tabulate}
 use Rattle.raster.specs.Vector.{mark, size, unlabelled}
 
@@ -43,4 +43,4 @@ unmapped m = replicate (length m) mark
 
 -- refusal 37 asks for it: some of the first n pixels has size 0
 unfoldable pub hasCopper : (n : ℕ) → List ℤ → Bool
-hasCopper n m = some n (λ p. eqb (sizeAt m p) 0)
+hasCopper n m = anyBelow n (λ p. eqb (sizeAt m p) 0)

@@ -9,5 +9,5 @@ use lib.ListN.{length, getD}
 pub record RowWritten (base n : ℕ) (f : ℕ → ℕ) (before after : List ℕ) : Type 0 where
   pub long : length after ≡ length before
   pub here : (x : ℕ) → x < n → getD after (base + x) 0 ≡ f x
-  pub under : (p : ℕ) → p < base → getD after p 0 ≡ getD before p 0
-  pub over : (p : ℕ) → base + n ≤ p → getD after p 0 ≡ getD before p 0
+  pub low-kept : (p : ℕ) → p < base → getD after p 0 ≡ getD before p 0
+  pub high-kept : (p : ℕ) → base + n ≤ p → getD after p 0 ≡ getD before p 0

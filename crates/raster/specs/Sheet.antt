@@ -20,9 +20,9 @@ unfoldable pub spanned : (p n v : ℕ) → List ℕ → List ℕ
 spanned p n v s = take p s ++ (replicate n v ++ drop (p + n) s)
 
 -- (a, b) lies in the rectangle of cols × rows pixels whose upper left one is (x, y)
-unfoldable pub covers : (x y cols rows : ℕ) → Mask
-covers x y cols rows a b = (leb x a && ltb a (x + cols)) && (leb y b && ltb b (y + rows))
+unfoldable pub inRectangle : (x y cols rows : ℕ) → Mask
+inRectangle x y cols rows a b = (leb x a && ltb a (x + cols)) && (leb y b && ltb b (y + rows))
 
 -- Calls, paint and erase: the value v in that rectangle, and every other pixel as it was
 unfoldable pub filled : (w h x y cols rows v : ℕ) → List ℕ → List ℕ
-filled w h x y cols rows v s = pixels w h (λ a b. cond (covers x y cols rows a b) v (getD s (index w a b) 0))
+filled w h x y cols rows v s = pixels w h (λ a b. cond (inRectangle x y cols rows a b) v (getD s (index w a b) 0))

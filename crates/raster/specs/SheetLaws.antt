@@ -14,7 +14,7 @@ use lib.Seq.{length-take-le, getD-take, getD-drop, getD-append-add}
 use borrow.Author.Tests.{ltb-true, leb-true, lt-ltb, le-leb}
 use Rattle.raster.specs.Pixels.{index}
 use Rattle.raster.specs.PixelsLaws.{pixels-length, pixels-at, pixels-is}
-use Rattle.raster.specs.Sheet.{spanned, covers, filled}
+use Rattle.raster.specs.Sheet.{spanned, inRectangle, filled}
 use Rattle.raster.specs.Tests.{and-left, and-right, same, cond-ind}
 
 -- ---- a span of places
@@ -58,9 +58,9 @@ record Covered (x y cols rows a b : ℕ) : Type 0 where
   bottom : b < y + rows
 
 module _ (x y cols rows a b : ℕ) where
-  covers-in : covers x y cols rows a b ≡ true → Covered x y cols rows a b
-  unfolding covers
-  covers-in e =
+  in-rectangle : inRectangle x y cols rows a b ≡ true → Covered x y cols rows a b
+  unfolding inRectangle
+  in-rectangle e =
       let c = and-left (leb x a && ltb a (x + cols)) _ e in
       let d = and-right (leb x a && ltb a (x + cols)) _ e in record {
         left = leb-true x a (and-left (leb x a) _ c);
@@ -69,9 +69,9 @@ module _ (x y cols rows a b : ℕ) where
         bottom = ltb-true b (y + rows) (and-right (leb y b) _ d);
       }
 
-  in-covers : Covered x y cols rows a b → covers x y cols rows a b ≡ true
-  unfolding covers
-  in-covers c = simp (le-leb x a (c .left), lt-ltb a (x + cols) (c .right), le-leb y b (c .top), lt-ltb b (y + rows) (c .bottom))
+  rectangle-in : Covered x y cols rows a b → inRectangle x y cols rows a b ≡ true
+  unfolding inRectangle
+  rectangle-in c = simp (le-leb x a (c .left), lt-ltb a (x + cols) (c .right), le-leb y b (c .top), lt-ltb b (y + rows) (c .bottom))
 
 -- ---- a rectangle, row by row
 
@@ -84,19 +84,19 @@ module _ (w h x y cols v : ℕ) (s : List ℕ) (whole : length s ≡ h * w) (acr
   unfolding filled
   filled-none =
       pixels-is w h _ s 0 whole
-      (λ a b k l. cond-ind (λ (t : ℕ). getD s (index w a b) 0 ≡ t) (covers x y cols 0 a b) (λ e. let c = covers-in x y cols 0 a b e in absurd (omega (arith, c .top, c .bottom))) (λ e. refl))
+      (λ a b k l. cond-ind (λ (t : ℕ). getD s (index w a b) 0 ≡ t) (inRectangle x y cols 0 a b) (λ e. let c = in-rectangle x y cols 0 a b e in absurd (omega (arith, c .top, c .bottom))) (λ e. refl))
 
   module _ (j : ℕ) (below : y + j < h) (a b : ℕ) where
     -- a pixel that the next row does not hold is covered after it as before
-    as-before : (Covered x y cols (j + 1) a b → b < y + j) → covers x y cols j a b ≡ covers x y cols (j + 1) a b
+    as-before : (Covered x y cols (j + 1) a b → b < y + j) → inRectangle x y cols j a b ≡ inRectangle x y cols (j + 1) a b
     as-before inner =
-        same (covers x y cols j a b) (covers x y cols (j + 1) a b)
-        (λ e. let c = covers-in x y cols j a b e in in-covers x y cols (j + 1) a b (record { left = c .left; right = c .right; top = c .top; bottom = omega (arith, c .bottom) }))
-        (λ e. let c = covers-in x y cols (j + 1) a b e in in-covers x y cols j a b (record { left = c .left; right = c .right; top = c .top; bottom = inner c }))
+        same (inRectangle x y cols j a b) (inRectangle x y cols (j + 1) a b)
+        (λ e. let c = in-rectangle x y cols j a b e in rectangle-in x y cols (j + 1) a b (record { left = c .left; right = c .right; top = c .top; bottom = omega (arith, c .bottom) }))
+        (λ e. let c = in-rectangle x y cols (j + 1) a b e in rectangle-in x y cols j a b (record { left = c .left; right = c .right; top = c .top; bottom = inner c }))
 
     -- the pixel, when the next row is filled
     abbrev Next : Type 0
-    Next = getD (spanned (index w x (y + j)) cols v (filled w h x y cols j v s)) (index w a b) 0 ≡ cond (covers x y cols (j + 1) a b) v (getD s (index w a b) 0)
+    Next = getD (spanned (index w x (y + j)) cols v (filled w h x y cols j v s)) (index w a b) 0 ≡ cond (inRectangle x y cols (j + 1) a b) v (getD s (index w a b) 0)
 
     pixel : a < w → b < h → Next
     unfolding filled
@@ -115,7 +115,7 @@ module _ (w h x y cols v : ℕ) (s : List ℕ) (whole : length s ≡ h * w) (acr
         go (no d) (no e) (no f) (yes g) =
             let r : b ≡ y + j = omega arith in
             spanned-in _ cols v _ room (index w a b) (omega (arith, ap (λ (t : ℕ). t * w) r)) (omega (arith, ap (λ (t : ℕ). t * w) r))
-            ∙ rw (in-covers x y cols (j + 1) a b (record { left = omega arith; right = g; top = omega arith; bottom = omega arith }))
+            ∙ rw (rectangle-in x y cols (j + 1) a b (record { left = omega arith; right = g; top = omega arith; bottom = omega arith }))
         go (no d) (no e) (no f) (no g) = let r : b ≡ y + j = omega arith in other (inr (omega (arith, ap (λ (t : ℕ). t * w) r))) (λ c. absurd (omega (arith, c .right)))
 
   pub filled-more : (j : ℕ) → y + j < h → spanned (index w x (y + j)) cols v (filled w h x y cols j v s) ≡ filled w h x y cols (j + 1) v s

@@ -18,8 +18,8 @@ Short z = mag z < 32768
 abbrev pub Wide : ℤ → Type 0
 Wide z = natAbs z ≤ 32769
 
-abbrev pub Step : ℤ → Type 0
-Step z = natAbs z ≤ 1
+abbrev pub UnitStep : ℤ → Type 0
+UnitStep z = natAbs z ≤ 1
 
 -- size, document 01's word for dx² + dy²
 unfoldable pub size : ℤ → ℤ → ℕ
@@ -55,5 +55,5 @@ pub record Ends (x y : ℕ) (dx dy : ℤ) (i j : ℕ) : Type 0 where
 pub record Target (copper : Mask) (w h x y : ℕ) (dx dy : ℤ) : Type 0 where
   pub column : ℕ
   pub row : ℕ
-  pub metal : Copper copper w h column row
+  pub on-copper : Copper copper w h column row
   pub ends : Ends x y dx dy column row

@@ -134,8 +134,8 @@ way-on y m =
 pub target-range : (copper : Mask) (w h x y : ℕ) (dx dy : ℤ) → w ≤ maxSide → h ≤ maxSide → x < w → y < h → Target copper w h x y dx dy → inRange dx && inRange dy ≡ true
 target-range copper w h x y dx dy wide tall a b t =
     simp (
-      range dx (t .column) x w wide a (t .metal .across) (reach x (t .column) dx (t .ends .column)),
-      range dy (t .row) y h tall b (t .metal .down) (reach y (t .row) dy (t .ends .row)),
+      range dx (t .column) x w wide a (t .on-copper .across) (reach x (t .column) dx (t .ends .column)),
+      range dy (t .row) y h tall b (t .on-copper .down) (reach y (t .row) dy (t .ends .row)),
     )
   where
     range : (d : ℤ) (i x n : ℕ) → n ≤ maxSide → x < n → i < n → natAbs d ≡ gap x i → inRange d ≡ true

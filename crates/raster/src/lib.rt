@@ -4,7 +4,7 @@ ghost use mathlib.Core.Path.{_≡_};
 ghost use Prim.Native.Nat.{_+_, _*_, _≤_};
 ghost use lib.IntN.{natAbs, _+ℤ_};
 ghost use lib.ListN.{length, replicate};
-ghost use Rattle.raster.specs.Vector.{Short, Wide, Step, size, unlabelled, inRange};
+ghost use Rattle.raster.specs.Vector.{Short, Wide, UnitStep, size, unlabelled, inRange};
 ghost use Rattle.raster.specs.Map.{Inside, dxAt, dyAt, sizeAt, unlabelledAt, put, unmapped, hasCopper};
 ghost use Rattle.raster.specs.Sheet.{bare, spanned, filled};
 
@@ -37,7 +37,7 @@ pub fn is_unlabelled(dx: i32, dy: i32) -> bool
 
 // A component of a neighbour's vector, seen from the pixel.
 pub fn shifted(v: i32, o: i32) -> i32
-    requires { ⌜ Short v × Step o ⌝ }
+    requires { ⌜ Short v × UnitStep o ⌝ }
     ensures { λ r. ⌜ (r ≡ v +ℤ o) × Wide r ⌝ }
 {
     v + o

@@ -12,8 +12,8 @@ use lib.ListN.{length, getD, set}
 use borrow.Author.Tests.{lt-ltb, ltb-true, ne-eqb, eq-eqb}
 use Rattle.raster.proofs.Writing.{set-more}
 use Rattle.raster.specs.Distance.{gap, apart}
-use Rattle.raster.specs.Loop.{some}
-use Rattle.raster.specs.LoopLaws.{some-found, some-true}
+use Rattle.raster.specs.Loop.{anyBelow}
+use Rattle.raster.specs.LoopLaws.{any-found, any-true}
 use Rattle.raster.specs.Map.{sizeAt, unlabelledAt}
 use Rattle.raster.specs.Pixels.{index}
 use Rattle.raster.specs.Sheet.{copperOf}
@@ -21,7 +21,7 @@ use Rattle.raster.specs.Tests.{and-left, and-right, same}
 use Rattle.envelope.specs.Best.{noCost, noSite, priceOf, price, Site, bestSite}
 use Rattle.envelope.specs.BestLaws.{Least, best-found}
 use Rattle.rebuild.specs.Rebuild.{covers}
-use Rattle.rebuild.specs.Passes.{rowOf, line, costOf, Priced, Costs, hitBy}
+use Rattle.rebuild.specs.Passes.{passRow, rowCovers, markCost, Priced, Costs, hitBy}
 
 -- ---- what a pixel costs
 
@@ -51,9 +51,9 @@ module _ {m : List ℤ} {marks : List ℕ} {base : ℕ} where
   priced-none = record { costs = λ k l. absurd (omega arith); sizes = λ k l. absurd (omega arith) }
 
   pub priced-more : {k v : ℕ} {cost : List ℕ} → Priced m marks base k cost → k < length cost
-      → (v ≡ costOf m marks (base + k)) × (v < noCost → sizeAt m (base + k) ≤ 2147483648) → Priced m marks base (k + 1) (set cost k v)
+      → (v ≡ markCost m marks (base + k)) × (v < noCost → sizeAt m (base + k) ≤ 2147483648) → Priced m marks base (k + 1) (set cost k v)
   priced-more {k} {v} {cost} p l e = record {
-    costs = set-more 0 (λ j u. u ≡ costOf m marks (base + j)) (λ j. j) cost l (λ j a. omega arith) (e .0) (p .costs);
+    costs = set-more 0 (λ j u. u ≡ markCost m marks (base + j)) (λ j. j) cost l (λ j a. omega arith) (e .0) (p .costs);
     sizes = set-more 0 (λ j u. u < noCost → sizeAt m (base + j) ≤ 2147483648) (λ j. j) cost l (λ j a. omega arith) (e .1) (p .sizes);
   }
 
@@ -82,28 +82,28 @@ module _ {m : List ℤ} {w : ℕ} {marks cost : List ℕ} (h y : ℕ) (p : Price
       rw (o .0) (lt-ltb (apart x z i y) (sizeAt m q) (omega (arith, p .sizes i l s)))
 
   -- the best site of the row hits exactly if some pixel of it covers
-  pub hit-line : (t k : ℕ) → w ≤ 2048 → k - t ≡ gap z y → hitBy cost t x (bestSite cost w x) k ≡ line m w h marks x z y
-  unfolding line
+  pub hit-line : (t k : ℕ) → w ≤ 2048 → k - t ≡ gap z y → hitBy cost t x (bestSite cost w x) k ≡ rowCovers m w h marks x z y
+  unfolding rowCovers
   hit-line t k few d = ⊎-elim none least (best-found cost w x (omega arith))
     where
-      none : ((bestSite cost w x ≡ noSite) × ((s : ℕ) → s < w → Site cost s → ⊥)) → hitBy cost t x (bestSite cost w x) k ≡ some w (λ i. covers m w h marks x z i y)
+      none : ((bestSite cost w x ≡ noSite) × ((s : ℕ) → s < w → Site cost s → ⊥)) → hitBy cost t x (bestSite cost w x) k ≡ anyBelow w (λ i. covers m w h marks x z i y)
       none n =
           rw (eq-eqb (bestSite cost w x) noSite (n .0))
-          (same false (some w (λ i. covers m w h marks x z i y)) (λ e. absurd (false≢true e))
-          (λ e. let f = some-found w _ e in absurd (n .1 (f .place) (f .below) (from-cover (f .place) (f .below) (f .passes) .0))))
+          (same false (anyBelow w (λ i. covers m w h marks x z i y)) (λ e. absurd (false≢true e))
+          (λ e. let f = any-found w _ e in absurd (n .1 (f .witness) (f .below) (from-cover (f .witness) (f .below) (f .passes) .0))))
 
-      least : Least cost w x (bestSite cost w x) → hitBy cost t x (bestSite cost w x) k ≡ some w (λ i. covers m w h marks x z i y)
+      least : Least cost w x (bestSite cost w x) → hitBy cost t x (bestSite cost w x) k ≡ anyBelow w (λ i. covers m w h marks x z i y)
       least b =
           rw (ne-eqb (bestSite cost w x) noSite (omega (arith, b .below)), d)
-          (same (ltb (gap z y * gap z y + price cost x (bestSite cost w x)) 2147483648) (some w (λ i. covers m w h marks x z i y))
-          (λ e. some-true w _ (bestSite cost w x) (b .below) (to-cover (bestSite cost w x) (b .below) (b .site) (ltb-true _ _ e)))
+          (same (ltb (gap z y * gap z y + price cost x (bestSite cost w x)) 2147483648) (anyBelow w (λ i. covers m w h marks x z i y))
+          (λ e. any-true w _ (bestSite cost w x) (b .below) (to-cover (bestSite cost w x) (b .below) (b .site) (ltb-true _ _ e)))
           (λ e.
-          let f = some-found w _ e in
-          let g = from-cover (f .place) (f .below) (f .passes) in
-          lt-ltb (gap z y * gap z y + price cost x (bestSite cost w x)) 2147483648 (omega (arith, g .1, b .least (f .place) (f .below) (g .0)))))
+          let f = any-found w _ e in
+          let g = from-cover (f .witness) (f .below) (f .passes) in
+          lt-ltb (gap z y * gap z y + price cost x (bestSite cost w x)) 2147483648 (omega (arith, g .1, b .least (f .witness) (f .below) (g .0)))))
 
 -- two rows of a pass lie as far apart as their turns
-pub turns-apart : (up : Bool) (h t k : ℕ) → t ≤ k → k < h → k - t ≡ gap (rowOf up h k) (rowOf up h t)
+pub turns-apart : (up : Bool) (h t k : ℕ) → t ≤ k → k < h → k - t ≡ gap (passRow up h k) (passRow up h t)
 unfolding gap
 turns-apart true h t k a b = omega arith
 turns-apart false h t k a b = omega arith

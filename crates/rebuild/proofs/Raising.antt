@@ -57,18 +57,18 @@ raised-same {t} {h} {f} {g} {r₀} {r} e s = record { says = λ k a b. rw (e k a
 
 module _ {t h from : ℕ} {hit : ℕ → ℕ → Bool} {before : List ℕ} where
   pub lift-none : RowRaised t h from from hit before before
-  lift-none = record { long = refl; here = λ x a b. absurd (omega arith); under = λ x l. refl; over = λ x l. refl }
+  lift-none = record { long = refl; here = λ x a b. absurd (omega arith); low-kept = λ x l. refl; high-kept = λ x l. refl }
 
   pub lift-more : {x v : ℕ} {after : List ℕ} → RowRaised t h from x hit before after → from ≤ x → x < length before
       → Raised t h (hit x) (getD after x 0) v → RowRaised t h from (x + 1) hit before (set after x v)
   lift-more {x} {v} {after} r a l e = record {
     long = length-set after x v ∙ r .long;
     here = λ z b m. elim (ℕ-discrete z x) [
-      | yes q ↦ rw (q, getD-set-same after x v 0 (omega (arith, r .long)), ← r .over x (omega arith)) e
+      | yes q ↦ rw (q, getD-set-same after x v 0 (omega (arith, r .long)), ← r .high-kept x (omega arith)) e
       | no q ↦ rw (getD-set-other after x z v 0 q) (r .here z b (omega arith))
     ];
-    under = λ z m. getD-set-other after x z v 0 (omega arith) ∙ r .under z m;
-    over = λ z m. getD-set-other after x z v 0 (omega arith) ∙ r .over z (omega arith);
+    low-kept = λ z m. getD-set-other after x z v 0 (omega arith) ∙ r .low-kept z m;
+    high-kept = λ z m. getD-set-other after x z v 0 (omega arith) ∙ r .high-kept z (omega arith);
   }
 
   -- an empty run raises nothing
@@ -81,14 +81,14 @@ module _ {t h from : ℕ} {hit : ℕ → ℕ → Bool} {before : List ℕ} where
         record {
           long = f .long;
           here = λ z i j. absurd (omega arith);
-          under = f .under;
-          over = λ z i. elim (decLt z from) [ yes j ↦ f .under z j | no j ↦ f .over z (omega arith) ];
+          low-kept = f .low-kept;
+          high-kept = λ z i. elim (decLt z from) [ yes j ↦ f .low-kept z j | no j ↦ f .high-kept z (omega arith) ];
         }
   ]
 
 -- a run that raises nothing
 pub lift-bare : {t h from to : ℕ} {before : List ℕ} → RowRaised t h from to (λ x k. false) before before
-lift-bare = record { long = refl; here = λ x a b. record { says = λ k e f. refl }; under = λ x l. refl; over = λ x l. refl }
+lift-bare = record { long = refl; here = λ x a b. record { says = λ k e f. refl }; low-kept = λ x l. refl; high-kept = λ x l. refl }
 
 -- two runs that meet: the later one was raised first, and the earlier one as it should be
 pub lift-join : {t h a b n : ℕ} {hit run : ℕ → ℕ → Bool} {before o after : List ℕ} → a ≤ b → b ≤ n → RowRaised t h b n hit before o → RowRaised t h a b run o after
@@ -96,9 +96,9 @@ pub lift-join : {t h a b n : ℕ} {hit run : ℕ → ℕ → Bool} {before o aft
 lift-join {t} {h} {a} {b} {n} {hit} {run} {before} {o} {after} l m later earlier same = record {
   long = earlier .long ∙ later .long;
   here = λ x i j. elim (decLt x b) [
-    | yes e ↦ rw (← later .under x e) (raised-same (λ k p q. same x i e k) (earlier .here x i e))
-    | no e ↦ rw (earlier .over x (omega arith)) (later .here x (omega arith) j)
+    | yes e ↦ rw (← later .low-kept x e) (raised-same (λ k p q. same x i e k) (earlier .here x i e))
+    | no e ↦ rw (earlier .high-kept x (omega arith)) (later .here x (omega arith) j)
   ];
-  under = λ x i. earlier .under x i ∙ later .under x (omega arith);
-  over = λ x i. earlier .over x (omega arith) ∙ later .over x i;
+  low-kept = λ x i. earlier .low-kept x i ∙ later .low-kept x (omega arith);
+  high-kept = λ x i. earlier .high-kept x (omega arith) ∙ later .high-kept x i;
 }

@@ -7,29 +7,29 @@ use Prim.Native.Nat.{ℕ, _+_, _-_, _*_, _<_, _≤_}
 use lib.Dec.{eqb, ltb}
 use lib.IntN.{ℤ}
 use lib.ListN.{length, getD}
-use Rattle.raster.specs.Loop.{some}
+use Rattle.raster.specs.Loop.{anyBelow}
 use Rattle.raster.specs.Map.{sizeAt, unlabelledAt}
 use Rattle.raster.specs.Pixels.{index}
 use Rattle.envelope.specs.Best.{noCost, noSite, Site, priceOf}
 use Rattle.rebuild.specs.Rebuild.{covers}
 
 -- the t-th row of a pass over h rows, from the bottom up or from the top down
-abbrev pub rowOf : (up : Bool) (h t : ℕ) → ℕ
-rowOf up h t = cond up (h - 1 - t) t
+abbrev pub passRow : (up : Bool) (h t : ℕ) → ℕ
+passRow up h t = cond up (h - 1 - t) t
 
 -- some marked pixel of row j covers (x, y)
-unfoldable pub line : (m : List ℤ) (w h : ℕ) (marks : List ℕ) (x y j : ℕ) → Bool
-line m w h marks x y j = some w (λ i. covers m w h marks x y i j)
+unfoldable pub rowCovers : (m : List ℤ) (w h : ℕ) (marks : List ℕ) (x y j : ℕ) → Bool
+rowCovers m w h marks x y j = anyBelow w (λ i. covers m w h marks x y i j)
 
 -- ---- the costs of a row
 
 -- 2^31 less the size of a marked, labelled pixel; any other pixel is no site
-abbrev pub costOf : (m : List ℤ) (marks : List ℕ) (p : ℕ) → ℕ
-costOf m marks p = cond (eqb (getD marks p 0) 0) noCost (cond (unlabelledAt m p) noCost (2147483648 - sizeAt m p))
+abbrev pub markCost : (m : List ℤ) (marks : List ℕ) (p : ℕ) → ℕ
+markCost m marks p = cond (eqb (getD marks p 0) 0) noCost (cond (unlabelledAt m p) noCost (2147483648 - sizeAt m p))
 
 -- the costs of the row whose first pixel is at base, and sizes that can be taken from 2^31
 pub record Priced (m : List ℤ) (marks : List ℕ) (base w : ℕ) (cost : List ℕ) : Type 0 where
-  pub costs : (k : ℕ) → k < w → getD cost k 0 ≡ costOf m marks (base + k)
+  pub costs : (k : ℕ) → k < w → getD cost k 0 ≡ markCost m marks (base + k)
   pub sizes : (k : ℕ) → k < w → Site cost k → sizeAt m (base + k) ≤ 2147483648
 
 -- what those costs are: at most 2^31, or that of no site
@@ -54,12 +54,12 @@ pub record Raised (t h : ℕ) (hit : ℕ → Bool) (r₀ r : ℕ) : Type 0 where
 pub record RowRaised (t h from to : ℕ) (hit : ℕ → ℕ → Bool) (before after : List ℕ) : Type 0 where
   pub long : length after ≡ length before
   pub here : (x : ℕ) → from ≤ x → x < to → Raised t h (hit x) (getD before x 0) (getD after x 0)
-  pub under : (x : ℕ) → x < from → getD after x 0 ≡ getD before x 0
-  pub over : (x : ℕ) → to ≤ x → getD after x 0 ≡ getD before x 0
+  pub low-kept : (x : ℕ) → x < from → getD after x 0 ≡ getD before x 0
+  pub high-kept : (x : ℕ) → to ≤ x → getD after x 0 ≡ getD before x 0
 
 -- ---- a pass: 1 at each pixel that its row or one before it covers, and what was there at the others
 pub record Passed (m : List ℤ) (w h : ℕ) (marks : List ℕ) (up : Bool) (before after : List ℕ) : Type 0 where
   pub long : length after ≡ length before
   pub here : (x t : ℕ) → x < w → t < h
-      → getD after (index w x (rowOf up h t)) 0
-      ≡ cond (some (t + 1) (λ j. line m w h marks x (rowOf up h t) (rowOf up h j))) 1 (getD before (index w x (rowOf up h t)) 0)
+      → getD after (index w x (passRow up h t)) 0
+      ≡ cond (anyBelow (t + 1) (λ j. rowCovers m w h marks x (passRow up h t) (passRow up h j))) 1 (getD before (index w x (passRow up h t)) 0)

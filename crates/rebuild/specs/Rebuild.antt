@@ -6,7 +6,7 @@ use Prim.Native.Nat.{ℕ}
 use lib.Dec.{ltb}
 use lib.IntN.{ℤ}
 use Rattle.raster.specs.Distance.{apart}
-use Rattle.raster.specs.Loop.{some}
+use Rattle.raster.specs.Loop.{anyBelow}
 use Rattle.raster.specs.Map.{sizeAt, unlabelledAt}
 use Rattle.raster.specs.Pixels.{Mask, index, pixels}
 use Rattle.raster.specs.Sheet.{copperOf}
@@ -19,7 +19,7 @@ module _ (m : List ℤ) (w h : ℕ) where
 
   -- some marked pixel does
   unfoldable pub covered : (marks : List ℕ) → Mask
-  covered marks x y = some w (λ i. some h (λ j. covers marks x y i j))
+  covered marks x y = anyBelow w (λ i. anyBelow h (λ j. covers marks x y i j))
 
   -- what rebuild writes
   unfoldable pub rebuilt : (marks : List ℕ) → List ℕ

@@ -14,12 +14,12 @@ ghost use Rattle.raster.specs.Rows.{RowWritten};
 ghost use Rattle.envelope.specs.Best.{noCost, priceOf};
 ghost use Rattle.envelope.specs.Stack.{Entries, holder};
 ghost use Rattle.rebuild.specs.Rebuild.{rebuilt};
-ghost use Rattle.rebuild.specs.Passes.{rowOf, line, costOf, Priced, Costs, hits, hitBy, Raised, RowRaised, Passed};
+ghost use Rattle.rebuild.specs.Passes.{passRow, rowCovers, markCost, Priced, Costs, hits, hitBy, Raised, RowRaised, Passed};
 
 // What pixel p costs: an unmarked or unlabelled one is no site.
 fn cost_of(map: &[i16], marks: &[u8], p: usize) -> u32
     requires { ⌜ Inside p (now map) × (p < length (now marks)) ⌝ }
-    ensures { λ r. ⌜ (r ≡ costOf (now (map .entry)) (now (marks .entry)) p) × (r < noCost → sizeAt (now (map .entry)) p ≤ 2147483648) ⌝ }
+    ensures { λ r. ⌜ (r ≡ markCost (now (map .entry)) (now (marks .entry)) p) × (r < noCost → sizeAt (now (map .entry)) p ≤ 2147483648) ⌝ }
 {
     if marks[p] == 0 {
         return 4294967295;
@@ -118,9 +118,9 @@ fn raise_row(
     let mut to = n;
     while 0 < c {
         c -= 1;
-        let from = envelope::place(start, c);
+        let from = envelope::element(start, c);
         if from < to {
-            let s = envelope::place(site, c);
+            let s = envelope::element(site, c);
             raise_run(reach, from, to, t, h, s, envelope::cost_at(cost, s));
             to = from;
         }
@@ -128,7 +128,7 @@ fn raise_row(
 }
 
 // 1 where a pixel is covered, what it has elsewhere.
-fn over(hit: bool, v: u8) -> u8
+fn covered_or(hit: bool, v: u8) -> u8
     ensures { λ r. ⌜ r ≡ cond hit 1 v ⌝ }
 {
     if hit {
@@ -143,14 +143,14 @@ fn mark_row(out: &mut [u8], base: usize, n: usize, t: usize, reach: &[u16])
     ensures { λ _. ⌜ RowWritten base n (λ x. cond (ltb t (getD (now (reach .entry)) x 0)) 1 (getD (now (out .entry)) (base + x) 0)) (now (out .entry)) (now (out .exit)) ⌝ }
 {
     for x in 0..n {
-        out[base + x] = over(t < envelope::place(reach, x), out[base + x]);
+        out[base + x] = covered_or(t < envelope::element(reach, x), out[base + x]);
     }
 }
 
 // The t-th row of a pass.
 fn row_of(t: usize, h: usize, up: bool) -> usize
     requires { ⌜ t < h ⌝ }
-    ensures { λ r. ⌜ (r ≡ rowOf up h t) × (r < h) ⌝ }
+    ensures { λ r. ⌜ (r ≡ passRow up h t) × (r < h) ⌝ }
 {
     if up {
         return h - 1 - t;
@@ -175,8 +175,8 @@ fn pass_row(
     requires { ⌜ (w ≤ 2048) × ((h ≤ 2048) × (t < h)) ⌝ }
     requires { ⌜ (length (now map) ≡ 2 * (h * w)) × ((length (now marks) ≡ h * w) × (length (now out) ≡ h * w)) ⌝ }
     requires { ⌜ (w ≤ length (now reach)) × ((w ≤ length (now cost)) × ((w ≤ length (now site)) × (w ≤ length (now start)))) ⌝ }
-    ensures { λ _. ⌜ RowRaised t h 0 w (λ x k. line (now (map .entry)) w h (now (marks .entry)) x (rowOf up h k) (rowOf up h t)) (now (reach .entry)) (now (reach .exit)) ⌝ }
-    ensures { λ _. ⌜ RowWritten (rowOf up h t * w) w (λ x. cond (ltb t (getD (now (reach .exit)) x 0)) 1 (getD (now (out .entry)) (rowOf up h t * w + x) 0)) (now (out .entry)) (now (out .exit)) ⌝ }
+    ensures { λ _. ⌜ RowRaised t h 0 w (λ x k. rowCovers (now (map .entry)) w h (now (marks .entry)) x (passRow up h k) (passRow up h t)) (now (reach .entry)) (now (reach .exit)) ⌝ }
+    ensures { λ _. ⌜ RowWritten (passRow up h t * w) w (λ x. cond (ltb t (getD (now (reach .exit)) x 0)) 1 (getD (now (out .entry)) (passRow up h t * w + x) 0)) (now (out .entry)) (now (out .exit)) ⌝ }
 {
     let base = row_of(t, h, up) * w;
     price_row(map, marks, base, w, cost);

@@ -13,7 +13,7 @@ use lib.Seq.{drop-cons, drop-drop, getD-drop, take-add}
 use borrow.Author.Tests.{eqb-true, ne-eqb}
 use Rattle.raster.specs.PixelsLaws.{nothing}
 use Rattle.raster.specs.Tests.{and-right}
-use Rattle.records.specs.Format.{word, sizeOf, sizeHere, orderHere, splits, ordersIn, isJob, ordersOf, wordBytes, encode, encodeAll}
+use Rattle.records.specs.Format.{word, lengthOf, lengthHere, recordHere, splits, recordsIn, isJob, recordsOf, wordBytes, encode, encodeAll}
 use Rattle.records.specs.FormatLaws.{size-is, here}
 
 -- every element is a byte
@@ -52,8 +52,8 @@ halves a b h = (omega arith, omega arith)
 
 -- the record at the front, written again, is the bytes that it had
 module _ (b : List ℕ) (bytes : Bytes b) (fits : word b 0 ≤ length b) where
-  written-record : (k : ℕ) → word b 2 ≡ k → word b 0 ≡ sizeOf k → 1 ≤ k → k ≤ 9 → encode (orderHere b) ≡ take (word b 0) b
-  unfolding words encode orderHere sizeOf
+  written-record : (k : ℕ) → word b 2 ≡ k → word b 0 ≡ lengthOf k → 1 ≤ k → k ≤ 9 → encode (recordHere b) ≡ take (word b 0) b
+  unfolding words encode recordHere lengthOf
   written-record zero e s l h = absurd (omega arith)
   written-record (suc zero) e s l h = rw (e, s) (rw (s, e) at (words-are 4 0 b bytes (omega arith)))
   written-record (suc (suc zero)) e s l h = rw (e, s) (rw (s, e) at (words-are 6 0 b bytes (omega arith)))
@@ -66,28 +66,28 @@ module _ (b : List ℕ) (bytes : Bytes b) (fits : word b 0 ≤ length b) where
   written-record (suc (suc (suc (suc (suc (suc (suc (suc (suc zero))))))))) e s l h = let n = halves (word b 4) (word b 6) (word-limit b 4 bytes) in rw (e, s, n .0, n .1) (rw (s, e) at (words-are 4 0 b bytes (omega arith)))
   written-record (suc (suc (suc (suc (suc (suc (suc (suc (suc (suc k)))))))))) e s l h = absurd (omega arith)
 
-front : (b : List ℕ) → Bytes b → (sizeHere b ≡ 0 → ⊥) → encode (orderHere b) ≡ take (sizeHere b) b
+front : (b : List ℕ) → Bytes b → (lengthHere b ≡ 0 → ⊥) → encode (recordHere b) ≡ take (lengthHere b) b
 front b bytes some =
     let h = here b refl some in
     let fits : word b 0 ≤ length b = rw (h .said) (h .size) in
     rw (size-is b (h .header) (h .said) fits) (written-record b bytes fits (word b 2) refl (h .said) (h .known .0) (h .known .1))
 
-written-again : (n : ℕ) (b : List ℕ) → Bytes b → splits n b ≡ true → encodeAll (ordersIn n b) ≡ b
-unfolding splits ordersIn encodeAll
+written-again : (n : ℕ) (b : List ℕ) → Bytes b → splits n b ≡ true → encodeAll (recordsIn n b) ≡ b
+unfolding splits recordsIn encodeAll
 written-again zero b bytes e = nothing b (eqb-true (length b) 0 e)
 written-again (suc n) b bytes e = elim (ℕ-discrete (length b) 0) [
   | yes z ↦ rw z (nothing b z)
   | no some ↦
       let f = ne-eqb (length b) 0 some in
-      elim (ℕ-discrete (sizeHere b) 0) [
+      elim (ℕ-discrete (lengthHere b) 0) [
         | yes z ↦ absurd (false≢true (rw (f, z) at e))
         | no whole ↦
-            let rest = written-again n (drop (sizeHere b) b) (λ i. rw (getD-drop (sizeHere b) b i 0) (bytes (sizeHere b + i))) (rw (f, ne-eqb (sizeHere b) 0 whole) at e) in
-            rw f (ap₂ (λ (x y : List ℕ). x ++ y) (front b bytes whole) rest ∙ take-append-drop (sizeHere b) b)
+            let rest = written-again n (drop (lengthHere b) b) (λ i. rw (getD-drop (lengthHere b) b i 0) (bytes (lengthHere b + i))) (rw (f, ne-eqb (lengthHere b) 0 whole) at e) in
+            rw f (ap₂ (λ (x y : List ℕ). x ++ y) (front b bytes whole) rest ∙ take-append-drop (lengthHere b) b)
       ]
 ]
 
 -- the theorem: a job file that splits is its records, written one after the other
-pub decoded : (job : List ℕ) → Bytes job → isJob job ≡ true → encodeAll (ordersOf job) ≡ job
-unfolding isJob ordersOf
+pub decoded : (job : List ℕ) → Bytes job → isJob job ≡ true → encodeAll (recordsOf job) ≡ job
+unfolding isJob recordsOf
 decoded job bytes is = written-again (length job) job bytes (and-right (leb (length job) 65536) _ is)

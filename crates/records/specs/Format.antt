@@ -9,16 +9,16 @@ use lib.ListN.{length, getD, drop}
 use Rattle.records.specs.declared.Counted.{Counted}
 
 -- a record, with its fields in their order
-pub data Order : Type 0 where
-  opening : (w h : ℕ) → Order
-  paint : (x y cols rows : ℕ) → Order
-  erase : (x y cols rows : ℕ) → Order
-  build : (engine : ℕ) → Order
-  place : (x y q : ℕ) → Order
-  run : (direction count : ℕ) → Order
-  lift : Order
-  expand : (q : ℕ) → Order
-  shrink : (q : ℕ) → Order
+pub data Record : Type 0 where
+  opening : (w h : ℕ) → Record
+  paint : (x y cols rows : ℕ) → Record
+  erase : (x y cols rows : ℕ) → Record
+  build : (engine : ℕ) → Record
+  place : (x y q : ℕ) → Record
+  run : (direction count : ℕ) → Record
+  lift : Record
+  expand : (q : ℕ) → Record
+  shrink : (q : ℕ) → Record
 
 -- ---- reading, little-endian
 
@@ -30,28 +30,28 @@ abbrev pub long : List ℕ → (place : ℕ) → ℕ
 long bytes i = word bytes i + 65536 * word bytes (i + 2)
 
 -- the whole length of a record of each kind; 0 for a kind that is none
-unfoldable pub sizeOf : (kind : ℕ) → ℕ
-sizeOf k =
+unfoldable pub lengthOf : (kind : ℕ) → ℕ
+lengthOf k =
     cond (eqb k 2 || (eqb k 3 || eqb k 5)) 12
     (cond (eqb k 4) 6 (cond (eqb k 7) 4 (cond (leb 1 k && leb k 9) 8 0)))
 
 -- the length of the record at the front of the bytes; 0 where the kind is none, the length not the kind's, or the tail cut
-unfoldable pub sizeHere : List ℕ → ℕ
-sizeHere bytes =
+unfoldable pub lengthHere : List ℕ → ℕ
+lengthHere bytes =
     cond (leb 4 (length bytes))
-    (cond (eqb (word bytes 0) (sizeOf (word bytes 2)) && leb (word bytes 0) (length bytes)) (word bytes 0) 0)
+    (cond (eqb (word bytes 0) (lengthOf (word bytes 2)) && leb (word bytes 0) (length bytes)) (word bytes 0) 0)
     0
 
 -- a whole record of a known kind stands at the front of the bytes
 pub record Here (b : List ℕ) : Type 0 where
   pub known : (1 ≤ word b 2) × (word b 2 ≤ 9)
   pub header : 4 ≤ length b
-  pub said : word b 0 ≡ sizeOf (word b 2)
-  pub size : sizeOf (word b 2) ≤ length b
+  pub said : word b 0 ≡ lengthOf (word b 2)
+  pub size : lengthOf (word b 2) ≤ length b
 
 -- the record at the front of the bytes, by its kind
-unfoldable pub orderHere : List ℕ → Order
-orderHere b =
+unfoldable pub recordHere : List ℕ → Record
+recordHere b =
     let kind = word b 2 in
     cond (eqb kind 1) (opening (word b 4) (word b 6))
     (cond (eqb kind 2) (paint (word b 4) (word b 6) (word b 8) (word b 10))
@@ -68,23 +68,23 @@ unfoldable pub splits : (most : ℕ) → List ℕ → Bool
 splits zero bytes = eqb (length bytes) 0
 splits (suc n) bytes =
     cond (eqb (length bytes) 0) true
-    (cond (eqb (sizeHere bytes) 0) false (splits n (drop (sizeHere bytes) bytes)))
+    (cond (eqb (lengthHere bytes) 0) false (splits n (drop (lengthHere bytes) bytes)))
 
 -- those records
-unfoldable pub ordersIn : (most : ℕ) → List ℕ → List Order
-ordersIn zero bytes = []
-ordersIn (suc n) bytes = cond (eqb (length bytes) 0) [] (orderHere bytes ∷ ordersIn n (drop (sizeHere bytes) bytes))
+unfoldable pub recordsIn : (most : ℕ) → List ℕ → List Record
+recordsIn zero bytes = []
+recordsIn (suc n) bytes = cond (eqb (length bytes) 0) [] (recordHere bytes ∷ recordsIn n (drop (lengthHere bytes) bytes))
 
 -- a job file has at most 65,536 bytes and splits; no record is shorter than a byte
 unfoldable pub isJob : List ℕ → Bool
 isJob bytes = leb (length bytes) 65536 && splits (length bytes) bytes
 
-unfoldable pub ordersOf : List ℕ → List Order
-ordersOf bytes = ordersIn (length bytes) bytes
+unfoldable pub recordsOf : List ℕ → List Record
+recordsOf bytes = recordsIn (length bytes) bytes
 
 -- splitting answers the number of records and 0, or 0 records and 19
 unfoldable pub splitOf : List ℕ → Counted
-splitOf bytes = cond (isJob bytes) (record { records = length (ordersOf bytes); answer = 0 }) (record { records = 0; answer = 19 })
+splitOf bytes = cond (isJob bytes) (record { records = length (recordsOf bytes); answer = 0 }) (record { records = 0; answer = 19 })
 
 -- ---- writing: reading undoes it (`encoded`), and what splits was written so (`decoded`)
 
@@ -95,7 +95,7 @@ abbrev pub longBytes : ℕ → List ℕ
 longBytes n = wordBytes (n % 65536) ++ wordBytes (n / 65536)
 
 -- the length, the kind, the fields
-unfoldable pub encode : Order → List ℕ
+unfoldable pub encode : Record → List ℕ
 encode (opening w h) = wordBytes 8 ++ wordBytes 1 ++ wordBytes w ++ wordBytes h
 encode (paint x y c r) = wordBytes 12 ++ wordBytes 2 ++ wordBytes x ++ wordBytes y ++ wordBytes c ++ wordBytes r
 encode (erase x y c r) = wordBytes 12 ++ wordBytes 3 ++ wordBytes x ++ wordBytes y ++ wordBytes c ++ wordBytes r
@@ -107,6 +107,6 @@ encode (expand q) = wordBytes 8 ++ wordBytes 8 ++ longBytes q
 encode (shrink q) = wordBytes 8 ++ wordBytes 9 ++ longBytes q
 
 -- one record after the other
-unfoldable pub encodeAll : List Order → List ℕ
+unfoldable pub encodeAll : List Record → List ℕ
 encodeAll [] = []
 encodeAll (o ∷ os) = encode o ++ encodeAll os

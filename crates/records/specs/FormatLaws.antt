@@ -14,7 +14,7 @@ use borrow.Author.Tests.{eq-eqb, ne-eqb, eqb-true, leb-true, le-leb, lt-leb}
 use Rattle.raster.specs.Tests.{and-left, and-right, cond-ind}
 use Rattle.records.specs.declared.Counted.{Counted}
 use Rattle.records.specs.Format.{
-  Order,
+  Record,
   opening,
   paint,
   erase,
@@ -25,14 +25,14 @@ use Rattle.records.specs.Format.{
   expand,
   shrink,
   word,
-  sizeOf,
-  sizeHere,
+  lengthOf,
+  lengthHere,
   Here,
-  orderHere,
+  recordHere,
   splits,
-  ordersIn,
+  recordsIn,
   isJob,
-  ordersOf,
+  recordsOf,
   splitOf,
   encode,
   encodeAll,
@@ -46,18 +46,18 @@ word-drop bytes at i l h =
     rw (getD-drop at bytes i 0, getD-drop at bytes (i + 1) 0, e) (ap₂ (λ (a b : ℕ). a + 256 * b) l h)
 
 -- the record at the front ends within the bytes
-pub size-fits : (bytes : List ℕ) → sizeHere bytes ≤ length bytes
-unfolding sizeHere
+pub size-fits : (bytes : List ℕ) → lengthHere bytes ≤ length bytes
+unfolding lengthHere
 size-fits bytes =
     cond-ind (λ (n : ℕ). n ≤ length bytes) (leb 4 (length bytes))
     (λ _.
-    cond-ind (λ (n : ℕ). n ≤ length bytes) (eqb (word bytes 0) (sizeOf (word bytes 2)) && leb (word bytes 0) (length bytes))
-    (λ e. leb-true _ _ (and-right (eqb (word bytes 0) (sizeOf (word bytes 2))) _ e))
+    cond-ind (λ (n : ℕ). n ≤ length bytes) (eqb (word bytes 0) (lengthOf (word bytes 2)) && leb (word bytes 0) (length bytes))
+    (λ e. leb-true _ _ (and-right (eqb (word bytes 0) (lengthOf (word bytes 2))) _ e))
     (λ _. omega arith))
     (λ _. omega arith)
 
 -- at a record, where bytes are left
-module _ (job : List ℕ) (i at : ℕ) {size : ℕ} (is : size ≡ sizeHere (drop at job)) (more : at < length job) (few : i ≤ at) where
+module _ (job : List ℕ) (i at : ℕ) {size : ℕ} (is : size ≡ lengthHere (drop at job)) (more : at < length job) (few : i ≤ at) where
   one-less : length job - i ≡ suc (length job - (i + 1))
   one-less = omega arith
 
@@ -69,10 +69,10 @@ module _ (job : List ℕ) (i at : ℕ) {size : ℕ} (is : size ≡ sizeHere (dro
   unfolding splits
   splits-turn some = rw (one-less, some-left, ← is, ne-eqb size 0 some, drop-drop)
 
-  pub orders-turn :
-      ordersIn (length job - i) (drop at job) ≡ orderHere (drop at job) ∷ ordersIn (length job - (i + 1)) (drop (at + size) job)
-  unfolding ordersIn
-  orders-turn = rw (one-less, some-left, ← is, drop-drop)
+  pub records-turn :
+      recordsIn (length job - i) (drop at job) ≡ recordHere (drop at job) ∷ recordsIn (length job - (i + 1)) (drop (at + size) job)
+  unfolding recordsIn
+  records-turn = rw (one-less, some-left, ← is, drop-drop)
 
   -- it is none
   pub splits-not : size ≡ 0 → splits (length job - i) (drop at job) ≡ false
@@ -85,16 +85,16 @@ unfolding splits
 splits-end zero bytes e = rw e
 splits-end (suc n) bytes e = rw e
 
-pub orders-end : (n : ℕ) (bytes : List ℕ) → length bytes ≡ 0 → ordersIn n bytes ≡ []
-unfolding ordersIn
-orders-end zero bytes e = refl
-orders-end (suc n) bytes e = rw e
+pub records-end : (n : ℕ) (bytes : List ℕ) → length bytes ≡ 0 → recordsIn n bytes ≡ []
+unfolding recordsIn
+records-end zero bytes e = refl
+records-end (suc n) bytes e = rw e
 
 -- what splitting answered
-pub split-done : (job : List ℕ) {c : Counted} → c ≡ splitOf job → c .answer ≡ 0 → (isJob job ≡ true) × (c .records ≡ length (ordersOf job))
+pub split-done : (job : List ℕ) {c : Counted} → c ≡ splitOf job → c .answer ≡ 0 → (isJob job ≡ true) × (c .records ≡ length (recordsOf job))
 unfolding splitOf
 split-done job {c} e done =
-    cond-ind (λ (d : Counted). c ≡ d → (isJob job ≡ true) × (c .records ≡ length (ordersOf job))) (isJob job)
+    cond-ind (λ (d : Counted). c ≡ d → (isJob job ≡ true) × (c .records ≡ length (recordsOf job))) (isJob job)
     (λ is q. (is, ap (λ (d : Counted). d .records) q))
     (λ _ q. absurd (omega (arith, done, ap (λ (d : Counted). d .answer) q))) e
 
@@ -113,15 +113,15 @@ halves n = omega (arith, div-add-mod' n 256)
 whole : (n : ℕ) → n % 65536 + 65536 * (n / 65536) ≡ n
 whole n = omega (arith, div-add-mod' n 65536)
 
-pub size-is : (bytes : List ℕ) → 4 ≤ length bytes → word bytes 0 ≡ sizeOf (word bytes 2) → word bytes 0 ≤ length bytes → sizeHere bytes ≡ word bytes 0
-unfolding sizeHere
+pub size-is : (bytes : List ℕ) → 4 ≤ length bytes → word bytes 0 ≡ lengthOf (word bytes 2) → word bytes 0 ≤ length bytes → lengthHere bytes ≡ word bytes 0
+unfolding lengthHere
 size-is bytes four same fits =
-    rw (le-leb 4 (length bytes) four, eq-eqb (word bytes 0) (sizeOf (word bytes 2)) same, le-leb (word bytes 0) (length bytes) fits)
+    rw (le-leb 4 (length bytes) four, eq-eqb (word bytes 0) (lengthOf (word bytes 2)) same, le-leb (word bytes 0) (length bytes) fits)
 
 -- a written record says its length, which is its kind's, and has its first four bytes
-header : (o : Order) (rest : List ℕ)
-    → (word (encode o ++ rest) 0 ≡ length (encode o)) × (sizeOf (word (encode o ++ rest) 2) ≡ length (encode o)) × (4 ≤ length (encode o))
-unfolding encode sizeOf
+header : (o : Record) (rest : List ℕ)
+    → (word (encode o ++ rest) 0 ≡ length (encode o)) × (lengthOf (word (encode o ++ rest) 2) ≡ length (encode o)) × (4 ≤ length (encode o))
+unfolding encode lengthOf
 header (opening w h) rest = (refl, refl, omega arith)
 header (paint x y c r) rest = (refl, refl, omega arith)
 header (erase x y c r) rest = (refl, refl, omega arith)
@@ -133,32 +133,32 @@ header (expand q) rest = (refl, refl, omega arith)
 header (shrink q) rest = (refl, refl, omega arith)
 
 -- the record at the front of bytes that start with a written record is that one
-size-written : (o : Order) (rest : List ℕ) → sizeHere (encode o ++ rest) ≡ length (encode o)
+size-written : (o : Record) (rest : List ℕ) → lengthHere (encode o ++ rest) ≡ length (encode o)
 size-written o rest =
     let h = header o rest in
     let n = length-append (encode o) rest in
     size-is (encode o ++ rest) (omega (arith, n, h .2)) (h .0 ∙ sym (h .1)) (omega (arith, n, h .0)) ∙ h .0
 
-order-written : (o : Order) (rest : List ℕ) → orderHere (encode o ++ rest) ≡ o
-unfolding encode orderHere
-order-written (opening w h) rest = simp halves
-order-written (paint x y c r) rest = simp halves
-order-written (erase x y c r) rest = simp halves
-order-written (build e) rest = simp halves
-order-written (place x y q) rest = simp (halves, whole)
-order-written (run d n) rest = simp halves
-order-written lift rest = refl
-order-written (expand q) rest = simp (halves, whole)
-order-written (shrink q) rest = simp (halves, whole)
+record-written : (o : Record) (rest : List ℕ) → recordHere (encode o ++ rest) ≡ o
+unfolding encode recordHere
+record-written (opening w h) rest = simp halves
+record-written (paint x y c r) rest = simp halves
+record-written (erase x y c r) rest = simp halves
+record-written (build e) rest = simp halves
+record-written (place x y q) rest = simp (halves, whole)
+record-written (run d n) rest = simp halves
+record-written lift rest = refl
+record-written (expand q) rest = simp (halves, whole)
+record-written (shrink q) rest = simp (halves, whole)
 
-each-a-byte : (os : List Order) → length os ≤ length (encodeAll os)
+each-a-byte : (os : List Record) → length os ≤ length (encodeAll os)
 unfolding encodeAll
 each-a-byte [] = omega arith
 each-a-byte (o ∷ os) = omega (arith, length-append (encode o) (encodeAll os), header o [] .2, each-a-byte os)
 
-read-back : (os : List Order) (n : ℕ) → length os ≤ n → (splits n (encodeAll os) ≡ true) × (ordersIn n (encodeAll os) ≡ os)
-unfolding encodeAll splits ordersIn
-read-back [] n h = (splits-end n [] refl, orders-end n [] refl)
+read-back : (os : List Record) (n : ℕ) → length os ≤ n → (splits n (encodeAll os) ≡ true) × (recordsIn n (encodeAll os) ≡ os)
+unfolding encodeAll splits recordsIn
+read-back [] n h = (splits-end n [] refl, records-end n [] refl)
 read-back (o ∷ os) zero h = absurd (omega arith)
 read-back (o ∷ os) (suc n) h =
     let r = encodeAll os in
@@ -166,12 +166,12 @@ read-back (o ∷ os) (suc n) h =
     let some : eqb (length (encode o ++ r)) 0 ≡ false = ne-eqb (length (encode o ++ r)) 0 (omega (arith, length-append (encode o) r, header o r .2)) in
     let size : eqb (length (encode o)) 0 ≡ false = ne-eqb (length (encode o)) 0 (omega (arith, header o r .2)) in (
       rw (some, size-written o r, size, drop-append-seam (encode o) r) (b .0),
-      rw (some, size-written o r, order-written o r, drop-append-seam (encode o) r) (ap (λ (l : List Order). o ∷ l) (b .1)),
+      rw (some, size-written o r, record-written o r, drop-append-seam (encode o) r) (ap (λ (l : List Record). o ∷ l) (b .1)),
     )
 
 -- the theorem: bytes that are records written one after the other, at most 65,536, split into those records
-pub encoded : (os : List Order) → length (encodeAll os) ≤ 65536 → (isJob (encodeAll os) ≡ true) × (ordersOf (encodeAll os) ≡ os)
-unfolding isJob ordersOf
+pub encoded : (os : List Record) → length (encodeAll os) ≤ 65536 → (isJob (encodeAll os) ≡ true) × (recordsOf (encodeAll os) ≡ os)
+unfolding isJob recordsOf
 encoded os few =
     let b = read-back os (length (encodeAll os)) (each-a-byte os) in
     (rw (le-leb (length (encodeAll os)) 65536 few) (b .0), b .1)
@@ -179,27 +179,27 @@ encoded os few =
 -- ---- a whole record of a known kind
 
 -- a kind above 9 has no length, and neither has 0
-no-size : (k : ℕ) → 9 < k → sizeOf k ≡ 0
-unfolding sizeOf
+no-size : (k : ℕ) → 9 < k → lengthOf k ≡ 0
+unfolding lengthOf
 no-size k h =
     rw (ne-eqb k 2 (omega arith), ne-eqb k 3 (omega arith), ne-eqb k 5 (omega arith), ne-eqb k 4 (omega arith), ne-eqb k 7 (omega arith), lt-leb k 9 h, and-false)
 
-has-size : (k : ℕ) → (sizeOf k ≡ 0 → ⊥) → (1 ≤ k) × (k ≤ 9)
-unfolding sizeOf
+has-size : (k : ℕ) → (lengthOf k ≡ 0 → ⊥) → (1 ≤ k) × (k ≤ 9)
+unfolding lengthOf
 has-size zero some = absurd (some refl)
 has-size (suc k) some = elim (decLe (suc k) 9) [ yes h ↦ (omega arith, h) | no h ↦ absurd (some (no-size (suc k) (omega arith))) ]
 
-pub here : (b : List ℕ) {size : ℕ} → size ≡ sizeHere b → (size ≡ 0 → ⊥) → Here b
-unfolding sizeHere
-here b {size} is some = go (leb 4 (length b)) refl (eqb (word b 0) (sizeOf (word b 2)) && leb (word b 0) (length b)) refl is
+pub here : (b : List ℕ) {size : ℕ} → size ≡ lengthHere b → (size ≡ 0 → ⊥) → Here b
+unfolding lengthHere
+here b {size} is some = go (leb 4 (length b)) refl (eqb (word b 0) (lengthOf (word b 2)) && leb (word b 0) (length b)) refl is
   where
-    go : (t : Bool) → leb 4 (length b) ≡ t → (u : Bool) → eqb (word b 0) (sizeOf (word b 2)) && leb (word b 0) (length b) ≡ u
+    go : (t : Bool) → leb 4 (length b) ≡ t → (u : Bool) → eqb (word b 0) (lengthOf (word b 2)) && leb (word b 0) (length b) ≡ u
         → size ≡ cond t (cond u (word b 0) 0) 0 → Here b
     go false p u q e = absurd (some e)
     go true p false q e = absurd (some e)
     go true p true q e =
-        let same = eqb-true (word b 0) (sizeOf (word b 2)) (and-left (eqb (word b 0) (sizeOf (word b 2))) _ q) in
-        let fits = leb-true (word b 0) (length b) (and-right (eqb (word b 0) (sizeOf (word b 2))) _ q) in
+        let same = eqb-true (word b 0) (lengthOf (word b 2)) (and-left (eqb (word b 0) (lengthOf (word b 2))) _ q) in
+        let fits = leb-true (word b 0) (length b) (and-right (eqb (word b 0) (lengthOf (word b 2))) _ q) in
         record {
           known = has-size (word b 2) (λ z. some (e ∙ same ∙ z));
           header = leb-true 4 (length b) p;
@@ -208,7 +208,7 @@ here b {size} is some = go (leb 4 (length b)) refl (eqb (word b 0) (sizeOf (word
         }
 
 -- a record of kind j has its bytes
-pub room : (job : List ℕ) (at j : ℕ) {k : ℕ} → Here (drop at job) → k ≡ word (drop at job) 2 → k ≡ j → at + sizeOf j ≤ length job
+pub room : (job : List ℕ) (at j : ℕ) {k : ℕ} → Here (drop at job) → k ≡ word (drop at job) 2 → k ≡ j → at + lengthOf j ≤ length job
 room job at j h is e =
     let same : word (drop at job) 2 ≡ j = sym is ∙ e in
     omega (arith, length-drop at job, h .header, rw same at (h .size))

@@ -8,22 +8,22 @@ use lib.Dec.{ltb}
 use lib.ListN.{length, take, drop}
 
 -- the last decimal digits of n, at most so many, with no zero in front
-unfoldable pub digits : (most n : ℕ) → List ℕ
-digits zero n = []
-digits (suc k) n = cond (ltb n 10) ((48 + n) ∷ []) (digits k (n / 10) ++ ((48 + n % 10) ∷ []))
+unfoldable pub decimalDigits : (most n : ℕ) → List ℕ
+decimalDigits zero n = []
+decimalDigits (suc k) n = cond (ltb n 10) ((48 + n) ∷ []) (decimalDigits k (n / 10) ++ ((48 + n % 10) ∷ []))
 
 -- a number of up to 32 bits in decimal
 abbrev pub decimal : ℕ → List ℕ
-decimal n = digits 10 n
+decimal n = decimalDigits 10 n
 
 -- number, space, answer, line feed
-unfoldable pub line : (number answer : ℕ) → List ℕ
-line i a = decimal i ++ ((32 ∷ []) ++ (decimal a ++ (10 ∷ [])))
+unfoldable pub answerLine : (number answer : ℕ) → List ℕ
+answerLine i a = decimal i ++ ((32 ∷ []) ++ (decimal a ++ (10 ∷ [])))
 
 -- the lines of answers, numbered from i on
 unfoldable pub textFrom : (i : ℕ) → List ℕ → List ℕ
 textFrom i [] = []
-textFrom i (a ∷ rest) = line i a ++ textFrom (i + 1) rest
+textFrom i (a ∷ rest) = answerLine i a ++ textFrom (i + 1) rest
 
 -- ---- writing text into a buffer
 

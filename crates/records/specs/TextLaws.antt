@@ -10,7 +10,7 @@ use lib.Dec.{ltb}
 use lib.ListN.{length, take, drop, set, length-append, take-append-drop}
 use lib.Seq.{drop-drop, take-suc-set, drop-set-lt}
 use Rattle.raster.specs.Tests.{cond-ind}
-use Rattle.records.specs.Text.{digits, decimal, line, written, Put}
+use Rattle.records.specs.Text.{decimalDigits, decimal, answerLine, written, Put}
 
 -- ---- writing
 
@@ -41,13 +41,13 @@ put-front {out} {after} {text} {e} p =
     (n, sym (take-append-drop e after) ∙ rw (p .front, p .back, n))
 
 -- a number's digits: the last one, and those before it
-pub digits-one : (most n : ℕ) → (most ≡ 0 → ⊥) → n < 10 → digits most n ≡ (48 + n) ∷ []
-unfolding digits
-digits-one zero n some h = absurd (some refl)
-digits-one (suc k) n some h = rw (lt-ltb n 10 h)
+pub digits-last : (most n : ℕ) → (most ≡ 0 → ⊥) → n < 10 → decimalDigits most n ≡ (48 + n) ∷ []
+unfolding decimalDigits
+digits-last zero n some h = absurd (some refl)
+digits-last (suc k) n some h = rw (lt-ltb n 10 h)
 
-pub digits-more : (most n : ℕ) → (most ≡ 0 → ⊥) → 10 ≤ n → digits most n ≡ digits (most - 1) (n / 10) ++ ((48 + n % 10) ∷ [])
-unfolding digits
+pub digits-more : (most n : ℕ) → (most ≡ 0 → ⊥) → 10 ≤ n → decimalDigits most n ≡ decimalDigits (most - 1) (n / 10) ++ ((48 + n % 10) ∷ [])
+unfolding decimalDigits
 digits-more zero n some h = absurd (some refl)
 digits-more (suc k) n some h = let e : suc k - 1 ≡ k = omega arith in rw (le-ltb n 10 h, e)
 
@@ -59,20 +59,20 @@ tens zero = 1
 tens (suc k) = 10 * tens k
 
 -- as many digits as the number needs, or fewer
-digits-few : (k most n : ℕ) → n < tens (suc k) → length (digits most n) ≤ suc k
-unfolding digits tens
+digits-few : (k most n : ℕ) → n < tens (suc k) → length (decimalDigits most n) ≤ suc k
+unfolding decimalDigits tens
 digits-few k zero n h = omega arith
 digits-few zero (suc m) n h = rw (lt-ltb n 10 h) (omega arith)
 digits-few (suc k) (suc m) n h =
     cond-ind (λ (l : List ℕ). length l ≤ suc (suc k)) (ltb n 10) (λ _. omega arith)
-    (λ _. omega (arith, length-append (digits m (n / 10)) ((48 + n % 10) ∷ []), digits-few k m (n / 10) (omega arith)))
+    (λ _. omega (arith, length-append (decimalDigits m (n / 10)) ((48 + n % 10) ∷ []), digits-few k m (n / 10) (omega arith)))
 
-pub line-length : (i a : ℕ) → length (line i a) ≡ length (decimal i) + (1 + (length (decimal a) + 1))
-unfolding line
+pub line-length : (i a : ℕ) → length (answerLine i a) ≡ length (decimal i) + (1 + (length (decimal a) + 1))
+unfolding answerLine
 line-length i a = simp length-append (omega arith)
 
 -- a record's line has at most nine bytes
-pub nine-bytes : (i a : ℕ) → i < 100000 → a < 100 → length (line i a) ≤ 9
+pub nine-bytes : (i a : ℕ) → i < 100000 → a < 100 → length (answerLine i a) ≤ 9
 unfolding tens
 nine-bytes i a fi fa = omega (arith, line-length i a, digits-few 4 10 i fi, digits-few 1 10 a fa)
 
@@ -89,9 +89,9 @@ spelled-more n [] t = refl
 spelled-more n (d ∷ s) t = spelled-more (10 * n + (d - 48)) s t
 
 -- the theorem: the digits of a number that needs no more than so many spell it
-pub digits-spell : (most n : ℕ) → n < tens most → spelled 0 (digits most n) ≡ n
-unfolding digits spelled tens
-digits-spell zero n h = omega arith
-digits-spell (suc k) n h =
+pub decimal-spells : (most n : ℕ) → n < tens most → spelled 0 (decimalDigits most n) ≡ n
+unfolding decimalDigits spelled tens
+decimal-spells zero n h = omega arith
+decimal-spells (suc k) n h =
     cond-ind (λ (l : List ℕ). spelled 0 l ≡ n) (ltb n 10) (λ _. omega arith)
-    (λ _. rw (spelled-more 0 (digits k (n / 10)) ((48 + n % 10) ∷ []), digits-spell k (n / 10) (omega arith)) (omega arith))
+    (λ _. rw (spelled-more 0 (decimalDigits k (n / 10)) ((48 + n % 10) ∷ []), decimal-spells k (n / 10) (omega arith)) (omega arith))

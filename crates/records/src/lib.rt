@@ -4,8 +4,8 @@ ghost use mathlib.Core.Path.{_≡_};
 ghost use mathlib.Core.List.{[], _∷_};
 ghost use Prim.Native.Nat.{_+_, _≤_, _<_};
 ghost use lib.ListN.{length, drop};
-ghost use Rattle.records.specs.Format.{word, long, sizeOf, sizeHere, splitOf};
-ghost use Rattle.records.specs.Text.{digits, line, Put};
+ghost use Rattle.records.specs.Format.{word, long, lengthOf, lengthHere, splitOf};
+ghost use Rattle.records.specs.Text.{decimalDigits, answerLine, Put};
 
 // The number of records and 0, or 0 and 19.
 #[repr(C)]
@@ -50,8 +50,8 @@ pub fn long_at(job: &[u8], at: usize, i: usize) -> u32
 }
 
 // The whole length of a record of a kind, or 0.
-fn size_of(kind: u16) -> usize
-    ensures { λ r. ⌜ r ≡ sizeOf kind ⌝ }
+fn length_of(kind: u16) -> usize
+    ensures { λ r. ⌜ r ≡ lengthOf kind ⌝ }
 {
     if (kind == 2) | ((kind == 3) | (kind == 5)) {
         return 12;
@@ -69,16 +69,16 @@ fn size_of(kind: u16) -> usize
 }
 
 // The length of the record that starts at `at`, or 0.
-pub fn size_at(job: &[u8], at: usize) -> usize
+pub fn length_at(job: &[u8], at: usize) -> usize
     requires { ⌜ at ≤ length (now job) ⌝ }
-    ensures { λ r. ⌜ r ≡ sizeHere (drop at (now (job .entry))) ⌝ }
+    ensures { λ r. ⌜ r ≡ lengthHere (drop at (now (job .entry))) ⌝ }
 {
     let left = job.len() - at;
     if left < 4 {
         return 0;
     }
     let size = word_at(job, at, 0) as usize;
-    if (size == size_of(word_at(job, at, 2))) & (size <= left) {
+    if (size == length_of(word_at(job, at, 2))) & (size <= left) {
         return size;
     }
     0
@@ -99,7 +99,7 @@ pub fn split(job: &[u8]) -> Counted
     let mut at = 0;
     let mut records = 0;
     while at < job.len() {
-        let size = size_at(job, at);
+        let size = length_at(job, at);
         if size == 0 {
             return Counted {
                 records: 0,
@@ -133,8 +133,8 @@ fn digit(n: u32) -> u8
 
 // Writes the last decimal digits of n, at most so many.
 fn put_number(out: &mut [u8], at: usize, n: u32, most: usize) -> usize
-    requires { ⌜ at + length (digits most n) ≤ length (now out) ⌝ }
-    ensures { λ r. ⌜ Put (now (out .entry)) at (digits most n) r (now (out .exit)) ⌝ }
+    requires { ⌜ at + length (decimalDigits most n) ≤ length (now out) ⌝ }
+    ensures { λ r. ⌜ Put (now (out .entry)) at (decimalDigits most n) r (now (out .exit)) ⌝ }
 {
     if most == 0 {
         return at;
@@ -148,8 +148,8 @@ fn put_number(out: &mut [u8], at: usize, n: u32, most: usize) -> usize
 
 // Writes the line of a record.
 pub fn put_line(out: &mut [u8], at: usize, number: u32, answer: u32) -> usize
-    requires { ⌜ at + length (line number answer) ≤ length (now out) ⌝ }
-    ensures { λ r. ⌜ Put (now (out .entry)) at (line number answer) r (now (out .exit)) ⌝ }
+    requires { ⌜ at + length (answerLine number answer) ≤ length (now out) ⌝ }
+    ensures { λ r. ⌜ Put (now (out .entry)) at (answerLine number answer) r (now (out .exit)) ⌝ }
 {
     let numbered = put_number(out, at, number, 10);
     let spaced = put_byte(out, numbered, 32);

@@ -16,7 +16,7 @@ use Rattle.raster.specs.LoopLaws.{reversed}
 use Rattle.raster.specs.Pixels.{Mask, index}
 use Rattle.raster.specs.Distance.{gap}
 use Rattle.raster.specs.DistanceLaws.{gap-zero}
-use Rattle.raster.specs.Vector.{Step}
+use Rattle.raster.specs.Vector.{UnitStep}
 use Rattle.raster.specs.VectorLaws.{step-back}
 use Rattle.candidate.specs.Candidate.{State}
 use Rattle.scan.specs.Scan.{rightward, leftward, fromRow, upRow}
@@ -27,19 +27,19 @@ use Rattle.scan.proofs.Sweeps.{Settled, rightward-grows, leftward-grows
 use Rattle.scan.proofs.Rows.{from-row-grows, from-row-settles}
 
 -- an order of the rows, each at o from the next
-pub record Order (h : ℕ) (r : ℕ → ℕ) (o : ℤ) : Type 0 where
+pub record RowOrder (h : ℕ) (r : ℕ → ℕ) (o : ℤ) : Type 0 where
   pub on : (k : ℕ) → k < h → r k < h
   pub next : (k : ℕ) → k + 1 < h → pos (r (k + 1)) +ℤ o ≡ pos (r k)
-  pub unit : Step o
+  pub unit : UnitStep o
 
-pub downwards : (h : ℕ) → Order h (λ k. k) (negsuc 0)
+pub downwards : (h : ℕ) → RowOrder h (λ k. k) (negsuc 0)
 downwards h = record { on = λ k l. l; next = λ k l. step-back k; unit = omega arith }
 
-pub upwards : (h : ℕ) → Order h (λ k. h - 1 - k) (pos 1)
+pub upwards : (h : ℕ) → RowOrder h (λ k. h - 1 - k) (pos 1)
 upwards h = record { on = λ k l. omega arith; next = λ k l. ap pos (omega arith); unit = omega arith }
 
 module _ (copper : Mask) (w h : ℕ) (wide : w ≤ maxSide) (tall : h ≤ maxSide) (corners : Bool) where
-  module _ (r : ℕ → ℕ) (o : ℤ) (order : Order h r o) where
+  module _ (r : ℕ → ℕ) (o : ℤ) (order : RowOrder h r o) where
     -- row r k from the row before it, if there is one; then both sweeps
     abbrev entered : ℕ → State → State
     entered k s = cond (ltb 0 k) (fromRow w corners (r k) (r (k - 1)) o s) s

@@ -15,19 +15,19 @@ use Rattle.raster.specs.Loop.{ascend}
 use Rattle.raster.specs.Pixels.{Mask, index}
 use Rattle.raster.specs.Distance.{gap}
 use Rattle.raster.specs.DistanceLaws.{gap-self, gap-left, gap-right}
-use Rattle.raster.specs.Vector.{Step}
+use Rattle.raster.specs.Vector.{UnitStep}
 use Rattle.raster.specs.VectorLaws.{step-back, step-none}
 use Rattle.raster.specs.Tests.{and-right}
-use Rattle.candidate.specs.Candidate.{State, take}
+use Rattle.candidate.specs.Candidate.{State, relaxFlagged}
 use Rattle.scan.specs.Scan.{fromLeft, fromRight, fromThree, fromRow}
 use Rattle.scan.proofs.Sound.{Hop}
 use Rattle.scan.proofs.Within.{Within, relaxed}
 use Rattle.scan.proofs.Cost.{Way, here, straight, corner, side}
-use Rattle.scan.proofs.Progress.{Fine, Grows, onward, either, loop-grows, take-grows, take-side, take-corner}
+use Rattle.scan.proofs.Progress.{Fine, Grows, onward, either, loop-grows, relax-grows, relax-side, relax-corner}
 use Rattle.scan.proofs.Sweeps.{Settled}
 
 module _ (copper : Mask) (w h : ℕ) (wide : w ≤ maxSide) (tall : h ≤ maxSide) (corners : Bool)
-    (y b : ℕ) (down : y < h) (down′ : b < h) (o : ℤ) (unit : Step o) (next : pos y +ℤ o ≡ pos b) where
+    (y b : ℕ) (down : y < h) (down′ : b < h) (o : ℤ) (unit : UnitStep o) (next : pos y +ℤ o ≡ pos b) where
   -- ---- the three neighbours
 
   at-left : (x : ℕ) → 0 < x → x < w → Hop copper w h x y (x - 1) b (negsuc 0) o
@@ -45,21 +45,21 @@ module _ (copper : Mask) (w h : ℕ) (wide : w ≤ maxSide) (tall : h ≤ maxSid
     left-grows : Grows copper w h s (fromLeft w corners y b o x s)
     left-grows =
         either copper w h (corners && ltb 0 x) _ fine
-        (λ e. take-grows copper w h wide tall s fine x y (x - 1) b (negsuc 0) o (at-left x (ltb-true 0 x (and-right corners _ e)) on))
+        (λ e. relax-grows copper w h wide tall s fine x y (x - 1) b (negsuc 0) o (at-left x (ltb-true 0 x (and-right corners _ e)) on))
 
-    middle-grows : Grows copper w h s (take (index w x y) (index w x b) (pos 0) o s)
-    middle-grows = take-grows copper w h wide tall s fine x y x b (pos 0) o (at-middle x on)
+    middle-grows : Grows copper w h s (relaxFlagged (index w x y) (index w x b) (pos 0) o s)
+    middle-grows = relax-grows copper w h wide tall s fine x y x b (pos 0) o (at-middle x on)
 
     right-grows : Grows copper w h s (fromRight w corners y b o x s)
     right-grows =
         either copper w h (corners && ltb (x + 1) w) _ fine
-        (λ e. take-grows copper w h wide tall s fine x y (x + 1) b (pos 1) o (at-right x (ltb-true (x + 1) w (and-right corners _ e))))
+        (λ e. relax-grows copper w h wide tall s fine x y (x + 1) b (pos 1) o (at-right x (ltb-true (x + 1) w (and-right corners _ e))))
 
     left-corner : corners ≡ true → 0 < x → (L : ℕ) → Within (s .map) (index w (x - 1) b) L → Within (fromLeft w corners y b o x s .map) (index w x y) (L + 17)
-    left-corner c some L g = simp (c, lt-ltb 0 x some) (take-corner copper w h wide tall s fine x y (x - 1) b (negsuc 0) o (at-left x some on) L (omega arith) unit g)
+    left-corner c some L g = simp (c, lt-ltb 0 x some) (relax-corner copper w h wide tall s fine x y (x - 1) b (negsuc 0) o (at-left x some on) L (omega arith) unit g)
 
     right-corner : corners ≡ true → x + 1 < w → (L : ℕ) → Within (s .map) (index w (x + 1) b) L → Within (fromRight w corners y b o x s .map) (index w x y) (L + 17)
-    right-corner c some L g = simp (c, lt-ltb (x + 1) w some) (take-corner copper w h wide tall s fine x y (x + 1) b (pos 1) o (at-right x some) L (omega arith) unit g)
+    right-corner c some L g = simp (c, lt-ltb (x + 1) w some) (relax-corner copper w h wide tall s fine x y (x + 1) b (pos 1) o (at-right x some) L (omega arith) unit g)
 
   three-grows : (x : ℕ) → x < w → (s : State) → Fine copper w h s → Grows copper w h s (fromThree w corners y b o x s)
   unfolding fromThree
@@ -85,7 +85,7 @@ module _ (copper : Mask) (w h : ℕ) (wide : w ≤ maxSide) (tall : h ≤ maxSid
       first : Grows copper w h s (fromLeft w corners y b o x s)
       first = left-grows x on s fine
 
-      second : Grows copper w h s (take (index w x y) (index w x b) (pos 0) o (fromLeft w corners y b o x s))
+      second : Grows copper w h s (relaxFlagged (index w x y) (index w x b) (pos 0) o (fromLeft w corners y b o x s))
       second = onward copper w h first (middle-grows x on _ (first .fine))
 
       -- from the corner towards column i
@@ -108,7 +108,7 @@ module _ (copper : Mask) (w h : ℕ) (wide : w ≤ maxSide) (tall : h ≤ maxSid
       three-settles (straight v′ e p) =
           let f : v′ ≡ v = omega arith in
           inl (right-grows x on _ (second .fine) .keeps _ _
-          (relaxed (rw f at p) (take-side copper w h wide tall _ (first .fine) x y x b (pos 0) o (at-middle x on) (K (gap x i) v) (omega arith) (first .keeps _ _ (before x on)))))
+          (relaxed (rw f at p) (relax-side copper w h wide tall _ (first .fine) x y x b (pos 0) o (at-middle x on) (K (gap x i) v) (omega arith) (first .keeps _ _ (before x on)))))
       three-settles (corner u v′ c e f p) = let g : v′ ≡ v = omega arith in inl (by-corner u c e (rw g at p) (decLt i x) (decLt x i))
       three-settles (side u e p) = inr (record { nearer = u; one = e; pays = p })
 

@@ -50,7 +50,7 @@ module _ (copper : Mask) (w h : ℕ) where
       moved : unlabelled nx ny ≡ false → Target copper w h x y (nx +ℤ ox) (ny +ℤ oy)
       moved l =
           let t = sound .target a b (hop .across′) (hop .down′) l in
-          record { column = t .column; row = t .row; metal = t .metal; ends = ends-step (hop .step) (t .ends) }
+          record { column = t .column; row = t .row; on-copper = t .on-copper; ends = ends-step (hop .step) (t .ends) }
 
       -- so it is allowed
       pub candidate-allowed : unlabelled nx ny ≡ false → allowed nx ny ox oy ≡ true

@@ -14,11 +14,11 @@ use Rattle.raster.specs.Pixels.{Mask, index}
 use Rattle.raster.specs.Distance.{gap}
 use Rattle.raster.specs.DistanceLaws.{gap-self, gap-left, gap-right}
 use Rattle.raster.specs.VectorLaws.{step-back, step-none}
-use Rattle.candidate.specs.Candidate.{State, take}
+use Rattle.candidate.specs.Candidate.{State, relaxFlagged}
 use Rattle.scan.specs.Scan.{rightward, leftward}
 use Rattle.scan.proofs.Sound.{Hop}
 use Rattle.scan.proofs.Within.{Within, relaxed}
-use Rattle.scan.proofs.Progress.{Fine, Grows, loop-grows, take-grows, take-side}
+use Rattle.scan.proofs.Progress.{Fine, Grows, loop-grows, relax-grows, relax-side}
 
 -- on the way from the right to the left, past column i, the gap grows
 mirrored : (w k i : ℕ) → w - 1 - i ≤ k → k < w - 1 → i < w → gap (w - 1 - (k + 1)) i ≡ gap (w - 1 - k) i + 1
@@ -41,14 +41,14 @@ module _ (copper : Mask) (w h : ℕ) (wide : w ≤ maxSide) (tall : h ≤ maxSid
 
   module _ (c : ℕ → ℕ) (o : ℤ) (unit : natAbs o ≤ 1) where
     abbrev step : ℕ → State → State
-    step k = take (index w (c (k + 1)) y) (index w (c k) y) o (pos 0)
+    step k = relaxFlagged (index w (c (k + 1)) y) (index w (c k) y) o (pos 0)
 
     -- its first n steps lie on the sheet
     abbrev Path : ℕ → Type 0
     Path n = (k : ℕ) → k < n → Hop copper w h (c (k + 1)) y (c k) y o (pos 0)
 
     path-grows : (n : ℕ) (s : State) → Fine copper w h s → Path n → Grows copper w h s (ascend step n s)
-    path-grows n s fine path = loop-grows copper w h step n s fine (λ k l t f. take-grows copper w h wide tall t f (c (k + 1)) y (c k) y o (pos 0) (path k l))
+    path-grows n s fine path = loop-grows copper w h step n s fine (λ k l t f. relax-grows copper w h wide tall t f (c (k + 1)) y (c k) y o (pos 0) (path k l))
 
     module _ (L : ℕ → ℕ) (s : State) (fine : Fine copper w h s) (a : ℕ) (start : Within (s .map) (index w (c a) y) (L a)) where
       -- each later position is within L already, or one more side step is paid for
@@ -74,13 +74,13 @@ module _ (copper : Mask) (w h : ℕ) (wide : w ≤ maxSide) (tall : h ≤ maxSid
           so-far = path-grows n s fine (λ i j. path i (omega arith))
 
           grown : Grows copper w h (ascend step n s) (step n (ascend step n s))
-          grown = take-grows copper w h wide tall _ (so-far .fine) (c (n + 1)) y (c n) y o (pos 0) hop
+          grown = relax-grows copper w h wide tall _ (so-far .fine) (c (n + 1)) y (c n) y o (pos 0) hop
 
           last : Dec (a ≤ n) → Within (step n (ascend step n s) .map) (index w (c (n + 1)) y) (L (n + 1))
           last (yes q) =
               ⊎-elim
               (λ r. grown .keeps _ _ (so-far .keeps _ _ r))
-              (λ r. relaxed r (take-side copper w h wide tall _ (so-far .fine) (c (n + 1)) y (c n) y o (pos 0) hop (L n) (omega arith) (done n q (omega arith))))
+              (λ r. relaxed r (relax-side copper w h wide tall _ (so-far .fine) (c (n + 1)) y (c n) y o (pos 0) hop (L n) (omega arith) (done n q (omega arith))))
               (ready n q (omega arith))
           last (no q) =
               let e : a ≡ n + 1 = omega arith in

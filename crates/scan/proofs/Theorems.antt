@@ -56,7 +56,7 @@ module _ (w h : ℕ) (wide : w ≤ maxSide) (tall : h ≤ maxSide) (sheet : List
         go : (t : Bool) → eqb (getD sheet (index w x y) 0) 0 ≡ t → unlabelled (cond t mark (pos 0)) (cond t mark (pos 0)) ≡ false
             → Target copper w h x y (cond t mark (pos 0)) (cond t mark (pos 0))
         go true e l = absurd (true≢false l)
-        go false e l = record { column = x; row = y; metal = record { across = across; down = down; metal = rw e }; ends = ends-here x y }
+        go false e l = record { column = x; row = y; on-copper = record { across = across; down = down; is-copper = rw e }; ends = ends-here x y }
 
     start-within : copper x y ≡ true → Within (seeds sheet) (index w x y) 0
     unfolding copperOf size
@@ -88,15 +88,15 @@ module _ (w h : ℕ) (wide : w ≤ maxSide) (tall : h ≤ maxSide) (sheet : List
       abbrev At : State → (row rows : ℕ) → Type 0
       At s row rows = Within (s .map) (index w x row) (cost corners (gap x i) rows)
 
-      metal : Within (seeds sheet) (index w i j) 0
-      metal = start-within i j (c .across) (c .down) (c .metal)
+      seeded : Within (seeds sheet) (index w i j) 0
+      seeded = start-within i j (c .across) (c .down) (c .is-copper)
 
       one : j ≤ y → At halfway y (gap y j)
       one l =
           let e : y - j ≡ gap y j = omega (arith, gap-up j y l, gap-swap y j) in
           subst (At halfway y) e
           (pass-within copper w h wide tall corners (λ k. k) (negsuc 0) (downwards h) i (c .across) j (cost corners) (way corners)
-          start start-fine metal h (omega arith) y l down x across)
+          start start-fine seeded h (omega arith) y l down x across)
 
       two : y ≤ j → At (scanned w corners h sheet) y (gap y j)
       unfolding scanned
@@ -107,7 +107,7 @@ module _ (w h : ℕ) (wide : w ≤ maxSide) (tall : h ≤ maxSide) (sheet : List
           rw (scan-two copper w h wide tall corners halfway)
           (subst₂ (At (ascend (rowAt copper w h wide tall corners (λ k. h - 1 - k) (pos 1) (upwards h)) h halfway)) f g
           (pass-within copper w h wide tall corners (λ k. h - 1 - k) (pos 1) (upwards h) i (c .across) (h - 1 - j) (cost corners) (way corners)
-          halfway (half-grows .fine) (rw e (half-grows .keeps _ _ metal)) h (omega arith) (h - 1 - y) (omega arith) (omega arith) x across))
+          halfway (half-grows .fine) (rw e (half-grows .keeps _ _ seeded)) h (omega arith) (h - 1 - y) (omega arith) (omega arith) x across))
 
       costs : At (scanned w corners h sheet) y (gap y j)
       costs = elim (decLe j y) [ yes l ↦ two-grows .keeps _ _ (one l) | no n ↦ two (omega arith) ]
@@ -138,14 +138,14 @@ module _ (w h : ℕ) (wide : w ≤ maxSide) (tall : h ≤ maxSide) (sheet : List
         where
           go : (t : Bool) → unlabelled dx dy ≡ t → t ≡ true
           go true e = refl
-          go false e = let t = ends-on-copper e in absurd (none (t .column) (t .row) (t .metal))
+          go false e = let t = ends-on-copper e in absurd (none (t .column) (t .row) (t .on-copper))
 
       pub with-copper : (i j : ℕ) → Copper copper w h i j → unlabelled dx dy ≡ false
       with-copper i j c = costs x y i j across down c .labelled
 
       -- so its true squared distance is at most its size
       pub at-most : unlabelled dx dy ≡ false → Near copper w h x y (size dx dy)
-      at-most l = let t = ends-on-copper l in record { column = t .column; row = t .row; copper = t .metal; within = omega (arith, ends-size (t .ends)) }
+      at-most l = let t = ends-on-copper l in record { column = t .column; row = t .row; copper = t .on-copper; within = omega (arith, ends-size (t .ends)) }
 
       -- copper has size 0
       pub on-copper : copper x y ≡ true → size dx dy ≡ 0

@@ -11,7 +11,7 @@ use native.Mathlib.Omega.{arith}
 use lib.IntN.{ℤ, natAbs, _+ℤ_}
 use borrow.Author.Tests.{ltb-true, ltb-false}
 use Rattle.raster.specs.DistanceLaws.{square-le, root-le}
-use Rattle.raster.specs.Vector.{Step, size, unlabelled, replaces}
+use Rattle.raster.specs.Vector.{UnitStep, size, unlabelled, replaces}
 use Rattle.raster.specs.VectorLaws.{add-abs, range-labelled}
 use Rattle.raster.specs.Map.{Inside, dxAt, dyAt, put}
 use Rattle.raster.specs.MapLaws.{put-dx, put-dy, put-dx-other, put-dy-other}
@@ -65,7 +65,7 @@ module _ (x y ox oy : ℤ) where
     | no o ↦ omega (arith, step-size 0 1 (omega arith) (omega arith), side (natAbs y) (natAbs x) K (omega arith))
   ]
 
-  pub corner-size : (K : ℕ) → Step ox → Step oy → 144 * size x y ≤ K * K → 144 * size (x +ℤ ox) (y +ℤ oy) ≤ (K + 17) * (K + 17)
+  pub corner-size : (K : ℕ) → UnitStep ox → UnitStep oy → 144 * size x y ≤ K * K → 144 * size (x +ℤ ox) (y +ℤ oy) ≤ (K + 17) * (K + 17)
   unfolding size
   corner-size K h k n = omega (arith, step-size 1 1 h k, corner (natAbs x) (natAbs y) K n)
 

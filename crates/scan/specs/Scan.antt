@@ -9,7 +9,7 @@ use Rattle.raster.specs.Gate.{Gate}
 use Rattle.raster.specs.Loop.{ascend, descend}
 use Rattle.raster.specs.Pixels.{index}
 use Rattle.raster.specs.Vector.{mark}
-use Rattle.candidate.specs.Candidate.{State, state, take}
+use Rattle.candidate.specs.Candidate.{State, state, relaxFlagged}
 
 -- copper starts at (0, 0), the rest unlabelled
 abbrev pub seed : ℕ → ℤ
@@ -24,24 +24,24 @@ module _ (w : ℕ) where
 
   -- left to right, each from its left neighbour; right to left, each from its right neighbour
   unfoldable pub rightward : (y : ℕ) → State → State
-  rightward y = ascend (λ x. take (index w (x + 1) y) (index w x y) (negsuc 0) (pos 0)) (w - 1)
+  rightward y = ascend (λ x. relaxFlagged (index w (x + 1) y) (index w x y) (negsuc 0) (pos 0)) (w - 1)
 
   unfoldable pub leftward : (y : ℕ) → State → State
-  leftward y = descend (λ x. take (index w x y) (index w (x + 1) y) (pos 1) (pos 0)) (w - 1)
+  leftward y = descend (λ x. relaxFlagged (index w x y) (index w (x + 1) y) (pos 1) (pos 0)) (w - 1)
 
   -- ---- from row to row: `corners` says 8SED; o is −1 from the row above, 1 from the row below
 
   module _ (corners : Bool) (y before : ℕ) (o : ℤ) where
     -- a neighbour that is off the sheet, or that the engine does not look at, is passed over
     abbrev pub fromLeft : (x : ℕ) → State → State
-    fromLeft x s = cond (corners && ltb 0 x) (take (index w x y) (index w (x - 1) before) (negsuc 0) o s) s
+    fromLeft x s = cond (corners && ltb 0 x) (relaxFlagged (index w x y) (index w (x - 1) before) (negsuc 0) o s) s
 
     abbrev pub fromRight : (x : ℕ) → State → State
-    fromRight x s = cond (corners && ltb (x + 1) w) (take (index w x y) (index w (x + 1) before) (pos 1) o s) s
+    fromRight x s = cond (corners && ltb (x + 1) w) (relaxFlagged (index w x y) (index w (x + 1) before) (pos 1) o s) s
 
     -- the pixel (x, y): upper left, above, upper right
     unfoldable pub fromThree : (x : ℕ) → State → State
-    fromThree x s = fromRight x (take (index w x y) (index w x before) (pos 0) o (fromLeft x s))
+    fromThree x s = fromRight x (relaxFlagged (index w x y) (index w x before) (pos 0) o (fromLeft x s))
 
     unfoldable pub fromRow : State → State
     fromRow = ascend fromThree w

@@ -6,7 +6,7 @@ ghost use mathlib.Core.Logic.{_≢_};
 ghost use mathlib.Core.Bool.{true, false};
 ghost use Prim.Native.Nat.{_+_, _*_, _≤_, _<_};
 ghost use lib.ListN.{length};
-ghost use Rattle.raster.specs.Vector.{Short, Step};
+ghost use Rattle.raster.specs.Vector.{Short, UnitStep};
 ghost use Rattle.raster.specs.Loop.{ascend, descend};
 ghost use Rattle.candidate.specs.Candidate.{state};
 ghost use Rattle.scan.specs.Scan.{seed, seeds, rightward, leftward, fromRow, fromAbove, fromBelow, downRow, upRow, scanned};
@@ -48,12 +48,12 @@ fn leftward(map: &mut [i16], w: usize, y: usize, over: bool) -> bool
 // 4SED: every pixel of row y from the pixel beside it in the row before.
 fn from_straight(map: &mut [i16], w: usize, y: usize, before: usize, o: i32, over: bool) -> bool
     requires { ⌜ (2 * (y * w + w) ≤ length (now map)) × (2 * (before * w + w) ≤ length (now map)) ⌝ }
-    requires { ⌜ Step o ⌝ }
+    requires { ⌜ UnitStep o ⌝ }
     ensures { λ r. ⌜ state (now (map .exit)) r ≡ fromRow w false y before o (state (now (map .entry)) over) ⌝ }
 {
     let mut met = over;
     for x in 0..w {
-        met = candidate::take(map, y * w + x, before * w + x, o, met);
+        met = candidate::relax_straight(map, y * w + x, before * w + x, o, met);
     }
     met
 }
@@ -61,7 +61,7 @@ fn from_straight(map: &mut [i16], w: usize, y: usize, before: usize, o: i32, ove
 // 8SED: every pixel of row y from the three beside it in the row before, each of which is read once.
 fn from_three(map: &mut [i16], w: usize, y: usize, before: usize, o: i32, over: bool) -> bool
     requires { ⌜ (y ≢ before) × ((2 * (y * w + w) ≤ length (now map)) × (2 * (before * w + w) ≤ length (now map))) ⌝ }
-    requires { ⌜ Step o ⌝ }
+    requires { ⌜ UnitStep o ⌝ }
     ensures { λ r. ⌜ state (now (map .exit)) r ≡ fromRow w true y before o (state (now (map .entry)) over) ⌝ }
 {
     let start = before * w;
@@ -88,7 +88,7 @@ fn from_row(
     over: bool,
 ) -> bool
     requires { ⌜ (y ≢ before) × ((2 * (y * w + w) ≤ length (now map)) × (2 * (before * w + w) ≤ length (now map))) ⌝ }
-    requires { ⌜ Step o ⌝ }
+    requires { ⌜ UnitStep o ⌝ }
     ensures { λ r. ⌜ state (now (map .exit)) r ≡ fromRow w corners y before o (state (now (map .entry)) over) ⌝ }
 {
     if corners {
@@ -162,7 +162,7 @@ fn seed_of(byte: u8) -> i32
 }
 
 // Copper at (0, 0), the rest unlabelled.
-fn sow(sheet: &[u8], map: &mut [i16])
+fn write_seeds(sheet: &[u8], map: &mut [i16])
     requires { ⌜ length (now map) ≡ 2 * length (now sheet) ⌝ }
     ensures { λ _. ⌜ now (map .exit) ≡ seeds (now (sheet .entry)) ⌝ }
 {
@@ -177,7 +177,7 @@ pub fn scan(sheet: &[u8], map: &mut [i16], w: usize, h: usize, corners: bool) ->
     requires { ⌜ (0 < w) × ((length (now sheet) ≡ h * w) × (length (now map) ≡ 2 * (h * w))) ⌝ }
     ensures { λ r. ⌜ state (now (map .exit)) r ≡ scanned w corners h (now (sheet .entry)) ⌝ }
 {
-    sow(sheet, map);
+    write_seeds(sheet, map);
     let met = scan_down(map, w, h, corners, false);
     scan_up(map, w, h, corners, met)
 }

@@ -16,7 +16,7 @@ use Rattle.scan.specs.Scan as scan
 use Rattle.exact.specs.Nearest as exact
 use Rattle.cutter.specs.declared.Cutter.{Cutter}
 use Rattle.cutter.specs.Directions.{columnAfter, rowAfter}
-use Rattle.cutter.specs.Gates.{mayStand, strays, blocked}
+use Rattle.cutter.specs.Gates.{mayStand, leavesSheet, blocked}
 use Rattle.session.specs.declared.Session.{Session}
 use Rattle.session.specs.State.{fresh, side, sound, active, stale, builtBy, downAt, upOf}
 
@@ -62,8 +62,8 @@ abbrev pub scanOf : Session → List ℕ → (engine : ℕ) → candidate.State
 scanOf s sheet e = scan.scanned (s .width) (eqb e 2) (s .height) sheet
 
 -- the engine's map of the sheet
-abbrev pub mapOf : Session → List ℕ → (engine : ℕ) → List ℤ
-mapOf s sheet e = cond (eqb e 1) (exact.exactMap (copperOf sheet (s .width)) (s .width) (s .height)) (scanOf s sheet e .map)
+abbrev pub engineMap : Session → List ℕ → (engine : ℕ) → List ℤ
+engineMap s sheet e = cond (eqb e 1) (exact.exactMap (copperOf sheet (s .width)) (s .width) (s .height)) (scanOf s sheet e .map)
 
 -- a candidate of its scan left ±2,047
 abbrev pub overflows : Session → List ℕ → (engine : ℕ) → Bool
@@ -84,7 +84,7 @@ abbrev pub buildSession : Session → (engine answer : ℕ) → Session
 buildSession s e a = cond (eqb a 0) (builtBy e s) (cond (eqb a 35) (stale s) s)
 
 abbrev pub buildMap : Session → List ℕ → List ℤ → (engine answer : ℕ) → List ℤ
-buildMap s sheet map e a = cond (eqb a 0) (mapOf s sheet e) (cond (eqb a 35) (unmapped map) map)
+buildMap s sheet map e a = cond (eqb a 0) (engineMap s sheet e) (cond (eqb a 35) (unmapped map) map)
 
 -- only exact writes scratch
 abbrev pub buildScratch : Session → List ℤ → (engine answer : ℕ) → List ℤ
@@ -117,7 +117,7 @@ runRefusal s map d n = firstOf
     ∷ (notMap s map, 12)
     ∷ (ltb 7 d || not (leb 1 n && leb n maxCount), 17)
     ∷ (not (s .lowered), 32)
-    ∷ (strays (ownCutter s) d n, 33)
+    ∷ (leavesSheet (ownCutter s) d n, 33)
     ∷ [])
 
 unfoldable pub runAnswer : Session → List ℤ → (direction count : ℕ) → ℕ
@@ -163,5 +163,5 @@ rebuildAnswer s map marks out = readAnswer s map (notSheet s marks || notSheet s
 abbrev pub hasRow : Session → List ℤ → (y : ℕ) → Bool
 hasRow s map y = active s && (ltb y (s .height) && isMap s map)
 
-abbrev pub rowOf : Session → List ℤ → (y : ℕ) → List ℤ
-rowOf s map y = cond (hasRow s map y) (take (2 * s .width) (drop (2 * (y * s .width)) map)) []
+abbrev pub mapRow : Session → List ℤ → (y : ℕ) → List ℤ
+mapRow s map y = cond (hasRow s map y) (take (2 * s .width) (drop (2 * (y * s .width)) map)) []

@@ -19,7 +19,7 @@ ghost use Rattle.session.specs.Calls.{
   fillAnswer,
   filledBy,
   overflows,
-  mapOf,
+  engineMap,
   buildRefusal,
   buildAnswer,
   buildSession,
@@ -38,7 +38,7 @@ ghost use Rattle.session.specs.Calls.{
   skeletonAnswer,
   rebuildAnswer,
   hasRow,
-  rowOf,
+  mapRow,
 };
 
 // What a session records.
@@ -342,7 +342,7 @@ fn run_to(mut s: Session, d: u16, count: u16) -> Session
     requires { ⌜ (d ≤ 7) × ((columnAfter d count (s .x) < s .width) × (rowAfter d count (s .y) < s .height)) ⌝ }
     ensures { λ r. ⌜ r ≡ runSession s d count ⌝ }
 {
-    let c = cutter::moved(own_cutter(s), d, count);
+    let c = cutter::cutter_after(own_cutter(s), d, count);
     s = down_at(s, c.x, c.y, c.q);
     s
 }
@@ -384,7 +384,7 @@ fn fill(s: Session, sheet: &mut [u8], x: u16, y: u16, cols: u16, rows: u16, v: u
 fn write_map(s: Session, sheet: &[u8], map: &mut [i16], scratch: &mut [i16], engine: u16) -> bool
     requires { ⌜ buildRefusal s (now sheet) (now map) (now scratch) engine ≡ 0 ⌝ }
     ensures { λ r. ⌜ r ≡ overflows s (now (sheet .entry)) engine ⌝ }
-    ensures { λ r. ⌜ now (map .exit) ≡ cond r (unmapped (now (map .entry))) (mapOf s (now (sheet .entry)) engine) ⌝ }
+    ensures { λ r. ⌜ now (map .exit) ≡ cond r (unmapped (now (map .entry))) (engineMap s (now (sheet .entry)) engine) ⌝ }
     ensures { λ r. ⌜ now (scratch .exit) ≡ cond (eqb engine 1) (cleared (s .height * s .width) (now (scratch .entry))) (now (scratch .entry)) ⌝ }
 {
     let w = s.width as usize;
@@ -680,7 +680,7 @@ impl Session {
 
     // Row y of the map, two numbers a pixel: the part of the map that holds it, or an empty part.
     pub fn map_row(self, map: &[i16], y: u16) -> &[i16]
-        ensures { λ r. ⌜ now r ≡ rowOf self (now (map .entry)) y ⌝ }
+        ensures { λ r. ⌜ now r ≡ mapRow self (now (map .entry)) y ⌝ }
     {
         if !has_row(self, map, y) {
             return &map[0..0];

@@ -16,8 +16,8 @@ use borrow.Author.Tests.{le-leb, lt-leb, leb-true}
 use Rattle.raster.proofs.Writing.{set-more}
 use Rattle.raster.specs.Tests.{and-left, and-right, cond-ind}
 use Rattle.skeleton.specs.Table.{g}
-use Rattle.skeleton.specs.Skeleton.{within}
-use Rattle.skeleton.specs.Bands.{Listed, counted, ownAt, takenAt, onSheet, Part, Framed, Blank, Measured, Band}
+use Rattle.skeleton.specs.Skeleton.{onSide}
+use Rattle.skeleton.specs.Bands.{Listed, counted, ownAt, takenAt, onSheet, Part, Framed, Blank, BandFilled, Band}
 
 pub part-none : {start : ℕ} {f : ℕ → ℕ} {s : List ℕ} → Part start 0 f s
 part-none = record { entry = λ i l. absurd (omega arith) }
@@ -55,12 +55,12 @@ listed-at {corner} e n =
 -- ---- the columns of a row
 
 module _ {m : List ℤ} {base w : ℕ} where
-  pub measured-none : {s : List ℕ} → Framed w s → Measured m base w 0 s
+  pub measured-none : {s : List ℕ} → Framed w s → BandFilled m base w 0 s
   measured-none f = record { framed = f; sizes = part-none; sides = part-none; corners = part-none }
 
-  pub measured-more : {n a b c : ℕ} {s : List ℕ} → Measured m base w n s → n < w → w ≤ 2048
+  pub measured-more : {n a b c : ℕ} {s : List ℕ} → BandFilled m base w n s → n < w → w ≤ 2048
       → a ≡ ownAt m (base + n) → b ≡ takenAt false m (base + n) → c ≡ takenAt true m (base + n)
-      → Measured m base w (n + 1) (set (set (set s (1 + n) a) (2051 + n) b) (4101 + n) c)
+      → BandFilled m base w (n + 1) (set (set (set s (1 + n) a) (2051 + n) b) (4101 + n) c)
   measured-more {n} {a} {b} {c} {s} r l few e f g =
       let long = r .framed .long in
       let one : length (set s (1 + n) a) ≡ 6150 = length-set s (1 + n) a ∙ long in
@@ -115,7 +115,7 @@ blank-framed {w} {s} b few = record {
 }
 
 module _ {m : List ℤ} {w h : ℕ} {s : List ℕ} where
-  pub band-measured : {y : ℕ} → Measured m (y * w) w w s → y < h → Band m w h (y + 1) s
+  pub band-measured : {y : ℕ} → BandFilled m (y * w) w w s → y < h → Band m w h (y + 1) s
   band-measured {y} r l = record {
     framed = r .framed;
     sizes = λ z e k. let d : z ≡ y = omega arith in rw d (r .sizes);
@@ -124,13 +124,13 @@ module _ {m : List ℤ} {w h : ℕ} {s : List ℕ} where
   }
 
   -- a row off the sheet
-  pub band-blank : {j : ℕ} → Blank s → w ≤ 2048 → within h j ≡ false → Band m w h j s
+  pub band-blank : {j : ℕ} → Blank s → w ≤ 2048 → onSide h j ≡ false → Band m w h j s
   band-blank {j} b few off = record {
     framed = blank-framed b few;
     sizes = λ y e l. absurd (false≢true (sym off ∙ on y e l));
-    sides = record { entry = λ i l. rw (off, and-false (within w i)) (zero-at b (2050 + i) (omega arith)) };
-    corners = record { entry = λ i l. rw (off, and-false (within w i)) (zero-at b (4100 + i) (omega arith)) };
+    sides = record { entry = λ i l. rw (off, and-false (onSide w i)) (zero-at b (2050 + i) (omega arith)) };
+    corners = record { entry = λ i l. rw (off, and-false (onSide w i)) (zero-at b (4100 + i) (omega arith)) };
   }
     where
-      on : (y : ℕ) → j ≡ y + 1 → y < h → within h j ≡ true
+      on : (y : ℕ) → j ≡ y + 1 → y < h → onSide h j ≡ true
       on y e l = rw (le-leb 1 j (omega arith), le-leb j h (omega arith))

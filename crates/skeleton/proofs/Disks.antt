@@ -17,7 +17,7 @@ use Rattle.raster.specs.Map.{sizeAt}
 use Rattle.raster.specs.Pixels.{index}
 use Rattle.raster.specs.Tests.{and-left, and-right}
 use Rattle.skeleton.specs.Table.{beside, g}
-use Rattle.skeleton.specs.Skeleton.{within, takenBy}
+use Rattle.skeleton.specs.Skeleton.{onSide, takenBy}
 use Rattle.skeleton.proofs.Outside.{g-least, g-below}
 
 -- one coordinate of a pixel x and of its neighbour p, which is one off, seen from z
@@ -96,11 +96,11 @@ module _ (m : List ℤ) (w h x y a b : ℕ) (small-a : a < 3) (small-b : b < 3) 
   taker : takenBy m w h x y a b ≡ true → Taker
   unfolding takenBy
   taker e =
-      let front = and-left (not (eqb a 1 && eqb b 1) && (within w (x + a) && within h (y + b))) _ e in
-      let back = and-right (not (eqb a 1 && eqb b 1) && (within w (x + a) && within h (y + b))) _ e in
+      let front = and-left (not (eqb a 1 && eqb b 1) && (onSide w (x + a) && onSide h (y + b))) _ e in
+      let back = and-right (not (eqb a 1 && eqb b 1) && (onSide w (x + a) && onSide h (y + b))) _ e in
       let on = and-right (not (eqb a 1 && eqb b 1)) _ front in
-      let c = and-left (within w (x + a)) _ on in
-      let r = and-right (within w (x + a)) _ on in
+      let c = and-left (onSide w (x + a)) _ on in
+      let r = and-right (onSide w (x + a)) _ on in
       let z = and-left (leb 1 n && leb n 400) _ back in record {
         column-on = leb-true 1 (x + a) (and-left (leb 1 (x + a)) _ c);
         column-in = leb-true (x + a) w (and-right (leb 1 (x + a)) _ c);

@@ -10,17 +10,17 @@ use lib.Dec.{eqb, leb}
 use lib.IntN.{ℤ}
 use borrow.Author.Tests.{ne-eqb, eqb-false}
 use Rattle.raster.specs.Distance.{gap}
-use Rattle.raster.specs.Loop.{some}
+use Rattle.raster.specs.Loop.{anyBelow}
 use Rattle.raster.specs.Map.{sizeAt, unlabelledAt}
 use Rattle.raster.specs.Pixels.{index}
 use Rattle.skeleton.specs.Table.{g, least}
-use Rattle.skeleton.specs.Skeleton.{takes, within, takenBy, removed, kept}
+use Rattle.skeleton.specs.Skeleton.{takes, onSide, takenBy, removed, kept}
 use Rattle.skeleton.specs.Bands.{counted, takenAt, onSheet, Band, takenIn, keptIn}
 
--- three tests are `some` of three
-some-three : (f : ℕ → Bool) {p q r : Bool} → p ≡ f 2 → q ≡ f 1 → r ≡ f 0 → p || (q || r) ≡ some 3 f
-unfolding some
-some-three f a b c = rw (a, b, c, or-false (f 0))
+-- three tests are `anyBelow` of three
+any-three : (f : ℕ → Bool) {p q r : Bool} → p ≡ f 2 → q ≡ f 1 → r ≡ f 0 → p || (q || r) ≡ anyBelow 3 f
+unfolding anyBelow
+any-three f a b c = rw (a, b, c, or-false (f 0))
 
 -- size 1 takes off what has size 0
 g-one : (corner : Bool) → g corner 1 ≡ 0
@@ -47,7 +47,7 @@ module _ (m : List ℤ) (w h x y : ℕ) where
     taken-is : (a b i j : ℕ) → i ≡ x + a → j ≡ y + b → eqb a 1 && eqb b 1 ≡ false
         → eqb (onSheet w h (takenAt (not (eqb a 1) && not (eqb b 1)) m) i j) (sizeAt m (index w x y)) ≡ takenBy m w h x y a b
     unfolding takenBy
-    taken-is a b i j p q other = rw (p, q, other) (go (within w (x + a) && within h (y + b)))
+    taken-is a b i j p q other = rw (p, q, other) (go (onSide w (x + a) && onSide h (y + b)))
       where
         corner : Bool
         corner = not (eqb a 1) && not (eqb b 1)
@@ -63,16 +63,16 @@ module _ (m : List ℤ) (w h x y : ℕ) where
       removed-is : takenIn above row below x (sizeAt m (index w x y)) ≡ removed m w h x y
       unfolding removed
       removed-is =
-          some-three (λ i. some 3 (λ j. takenBy m w h x y i j))
-          (some-three (takenBy m w h x y 2)
+          any-three (λ i. anyBelow 3 (λ j. takenBy m w h x y i j))
+          (any-three (takenBy m w h x y 2)
           (same (b .corners .entry (x + 2) (omega arith)) (taken-is 2 2 (x + 2) (y + 1 + 1) refl (omega arith) refl))
           (same (r .sides .entry (x + 2) (omega arith)) (taken-is 2 1 (x + 2) (y + 1) refl refl refl))
           (same (a .corners .entry (x + 2) (omega arith)) (taken-is 2 0 (x + 2) y refl (omega arith) refl)))
-          (some-three (takenBy m w h x y 1)
+          (any-three (takenBy m w h x y 1)
           (same (b .sides .entry (x + 1) (omega arith)) (taken-is 1 2 (x + 1) (y + 1 + 1) refl (omega arith) refl))
           self
           (same (a .sides .entry (x + 1) (omega arith)) (taken-is 1 0 (x + 1) y refl (omega arith) refl)))
-          (some-three (takenBy m w h x y 0)
+          (any-three (takenBy m w h x y 0)
           (same (b .corners .entry x (omega arith)) (taken-is 0 2 x (y + 1 + 1) (omega arith) (omega arith) refl))
           (same (r .sides .entry x (omega arith)) (taken-is 0 1 x (y + 1) (omega arith) refl refl))
           (same (a .corners .entry x (omega arith)) (taken-is 0 0 x y (omega arith) (omega arith) refl)))

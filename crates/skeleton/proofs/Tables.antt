@@ -8,8 +8,8 @@ use lib.Dec.{eqb}
 use lib.ListN.{getD}
 use borrow.Author.Tests.{eqb-true, not-false}
 use Rattle.raster.specs.Distance.{gap}
-use Rattle.raster.specs.Loop.{some}
-use Rattle.raster.specs.LoopLaws.{some-false}
+use Rattle.raster.specs.Loop.{anyBelow}
+use Rattle.raster.specs.LoopLaws.{any-false}
 use Rattle.skeleton.specs.Table.{g, least}
 use Rattle.skeleton.specs.Bands.{Listed}
 
@@ -20,18 +20,18 @@ unfoldable pub g8s : List ℕ
 g8s = 0 ∷ 0 ∷ 1 ∷ 1 ∷ 1 ∷ 2 ∷ 2 ∷ 2 ∷ 4 ∷ 4 ∷ 5 ∷ 5 ∷ 5 ∷ 8 ∷ 8 ∷ 8 ∷ 8 ∷ 8 ∷ 10 ∷ 10 ∷ 13 ∷ 13 ∷ 13 ∷ 13 ∷ 13 ∷ 16 ∷ 17 ∷ 17 ∷ 17 ∷ 18 ∷ 18 ∷ 18 ∷ 20 ∷ 20 ∷ 25 ∷ 25 ∷ 25 ∷ 25 ∷ 25 ∷ 25 ∷ 25 ∷ 29 ∷ 29 ∷ 29 ∷ 29 ∷ 32 ∷ 32 ∷ 32 ∷ 32 ∷ 32 ∷ 34 ∷ 34 ∷ 37 ∷ 40 ∷ 40 ∷ 40 ∷ 40 ∷ 40 ∷ 41 ∷ 41 ∷ 41 ∷ 45 ∷ 45 ∷ 45 ∷ 45 ∷ 50 ∷ 50 ∷ 50 ∷ 50 ∷ 50 ∷ 50 ∷ 50 ∷ 52 ∷ 52 ∷ 58 ∷ 58 ∷ 58 ∷ 58 ∷ 58 ∷ 58 ∷ 61 ∷ 61 ∷ 61 ∷ 61 ∷ 61 ∷ 65 ∷ 65 ∷ 65 ∷ 65 ∷ 68 ∷ 72 ∷ 72 ∷ 72 ∷ 72 ∷ 72 ∷ 72 ∷ 72 ∷ 72 ∷ 74 ∷ 74 ∷ 80 ∷ 80 ∷ 80 ∷ 80 ∷ 80 ∷ 80 ∷ 85 ∷ 85 ∷ 85 ∷ 85 ∷ 85 ∷ 85 ∷ 85 ∷ 89 ∷ 89 ∷ 89 ∷ 89 ∷ 97 ∷ 97 ∷ 97 ∷ 97 ∷ 97 ∷ 97 ∷ 97 ∷ 97 ∷ 98 ∷ 98 ∷ 98 ∷ 100 ∷ 100 ∷ 106 ∷ 106 ∷ 106 ∷ 106 ∷ 106 ∷ 106 ∷ 109 ∷ 113 ∷ 113 ∷ 113 ∷ 113 ∷ 113 ∷ 113 ∷ 113 ∷ 113 ∷ 116 ∷ 117 ∷ 117 ∷ 117 ∷ 125 ∷ 125 ∷ 125 ∷ 125 ∷ 125 ∷ 125 ∷ 125 ∷ 125 ∷ 128 ∷ 128 ∷ 128 ∷ 128 ∷ 128 ∷ 130 ∷ 130 ∷ 136 ∷ 136 ∷ 136 ∷ 136 ∷ 136 ∷ 136 ∷ 145 ∷ 145 ∷ 145 ∷ 145 ∷ 145 ∷ 145 ∷ 145 ∷ 145 ∷ 145 ∷ 145 ∷ 145 ∷ 149 ∷ 149 ∷ 149 ∷ 149 ∷ 157 ∷ 157 ∷ 157 ∷ 157 ∷ 157 ∷ 157 ∷ 157 ∷ 157 ∷ 160 ∷ 162 ∷ 162 ∷ 162 ∷ 162 ∷ 162 ∷ 162 ∷ 164 ∷ 164 ∷ 169 ∷ 169 ∷ 169 ∷ 170 ∷ 170 ∷ 170 ∷ 178 ∷ 178 ∷ 178 ∷ 178 ∷ 180 ∷ 180 ∷ 180 ∷ 180 ∷ 180 ∷ 180 ∷ 181 ∷ 181 ∷ 181 ∷ 185 ∷ 185 ∷ 185 ∷ 185 ∷ 193 ∷ 193 ∷ 193 ∷ 193 ∷ 193 ∷ 193 ∷ 193 ∷ 193 ∷ 200 ∷ 200 ∷ 200 ∷ 200 ∷ 200 ∷ 200 ∷ 200 ∷ 200 ∷ 200 ∷ 202 ∷ 202 ∷ 205 ∷ 208 ∷ 208 ∷ 208 ∷ 208 ∷ 208 ∷ 218 ∷ 218 ∷ 218 ∷ 218 ∷ 218 ∷ 218 ∷ 218 ∷ 218 ∷ 218 ∷ 218 ∷ 221 ∷ 221 ∷ 221 ∷ 221 ∷ 221 ∷ 225 ∷ 225 ∷ 225 ∷ 225 ∷ 232 ∷ 232 ∷ 232 ∷ 232 ∷ 232 ∷ 233 ∷ 233 ∷ 233 ∷ 241 ∷ 241 ∷ 241 ∷ 241 ∷ 242 ∷ 242 ∷ 242 ∷ 242 ∷ 242 ∷ 242 ∷ 242 ∷ 244 ∷ 244 ∷ 250 ∷ 250 ∷ 250 ∷ 250 ∷ 250 ∷ 250 ∷ 260 ∷ 260 ∷ 260 ∷ 260 ∷ 260 ∷ 260 ∷ 260 ∷ 260 ∷ 260 ∷ 260 ∷ 265 ∷ 265 ∷ 265 ∷ 265 ∷ 265 ∷ 265 ∷ 265 ∷ 269 ∷ 269 ∷ 269 ∷ 269 ∷ 274 ∷ 274 ∷ 274 ∷ 277 ∷ 277 ∷ 277 ∷ 277 ∷ 277 ∷ 288 ∷ 288 ∷ 288 ∷ 288 ∷ 288 ∷ 288 ∷ 288 ∷ 288 ∷ 288 ∷ 288 ∷ 288 ∷ 288 ∷ 288 ∷ 290 ∷ 290 ∷ 296 ∷ 296 ∷ 296 ∷ 296 ∷ 296 ∷ 296 ∷ 305 ∷ 305 ∷ 305 ∷ 305 ∷ 305 ∷ 305 ∷ 305 ∷ 306 ∷ 306 ∷ 306 ∷ 313 ∷ 313 ∷ 313 ∷ 313 ∷ 313 ∷ 313 ∷ 313 ∷ 313 ∷ 313 ∷ 317 ∷ 317 ∷ 317 ∷ 317 ∷ 320 ∷ 325 ∷ 325 ∷ 325 ∷ 325 ∷ 325 ∷ 325 ∷ 325 ∷ 337 ∷ 337 ∷ 337 ∷ 337 ∷ 337 ∷ 337 ∷ 337 ∷ 337 ∷ 337 ∷ 337 ∷ 337 ∷ 337 ∷ 338 ∷ 338 ∷ 338 ∷ 340 ∷ 340 ∷ 346 ∷ 346 ∷ 346 ∷ 346 ∷ 346 ∷ 346 ∷ []
 
 -- the test of all entries: none is wrong
-sides : some 400 (λ k. not (eqb (getD g4s k 0) (g false (k + 1)))) ≡ false
-unfolding g4s some g least gap
+sides : anyBelow 400 (λ k. not (eqb (getD g4s k 0) (g false (k + 1)))) ≡ false
+unfolding g4s anyBelow g least gap
 sides = refl
 
-corners : some 400 (λ k. not (eqb (getD g8s k 0) (g true (k + 1)))) ≡ false
-unfolding g8s some g least gap
+corners : anyBelow 400 (λ k. not (eqb (getD g8s k 0) (g true (k + 1)))) ≡ false
+unfolding g8s anyBelow g least gap
 corners = refl
 
 pub side-entries : Listed false g4s
 unfolding g4s
-side-entries = record { long = refl; entry = λ k l. eqb-true _ _ (not-false _ (some-false 400 _ k sides l)) }
+side-entries = record { long = refl; entry = λ k l. eqb-true _ _ (not-false _ (any-false 400 _ k sides l)) }
 
 pub corner-entries : Listed true g8s
 unfolding g8s
-corner-entries = record { long = refl; entry = λ k l. eqb-true _ _ (not-false _ (some-false 400 _ k corners l)) }
+corner-entries = record { long = refl; entry = λ k l. eqb-true _ _ (not-false _ (any-false 400 _ k corners l)) }

@@ -13,7 +13,7 @@ use borrow.Author.Tests.{ltb-true, lt-ltb, ne-eqb}
 use Rattle.raster.specs.Distance.{apart, Copper}
 use Rattle.raster.specs.DistanceLaws.{apart-self, apart-swap, apart-zero}
 use Rattle.raster.specs.Limits.{maxSide}
-use Rattle.raster.specs.LoopLaws.{some-found, some-true}
+use Rattle.raster.specs.LoopLaws.{any-found, any-true}
 use Rattle.raster.specs.Map.{sizeAt, unlabelledAt}
 use Rattle.raster.specs.Pixels.{Mask, index, pixels}
 use Rattle.raster.specs.PixelsLaws.{pixels-at, pixels-is, pixels-length}
@@ -30,9 +30,9 @@ use Rattle.skeleton.proofs.Disks.{InLarger, taken-inside}
 removed-inside : (m : List ℤ) (w h x y : ℕ) → removed m w h x y ≡ true → InLarger m w h x y
 unfolding removed
 removed-inside m w h x y e =
-    let a = some-found 3 _ e in
-    let b = some-found 3 _ (a .passes) in
-    taken-inside m w h x y (a .place) (b .place) (a .below) (b .below) (b .passes)
+    let a = any-found 3 _ e in
+    let b = any-found 3 _ (a .passes) in
+    taken-inside m w h x y (a .witness) (b .witness) (a .below) (b .below) (b .passes)
 
 module _ (copper : Mask) (w h : ℕ) (wide : w ≤ maxSide) (tall : h ≤ maxSide) where
   abbrev m : List ℤ
@@ -52,7 +52,7 @@ module _ (copper : Mask) (w h : ℕ) (wide : w ≤ maxSide) (tall : h ≤ maxSid
         let t = ends-on-copper copper w h wide tall x y a b (labelled x y a b) in
         elim (ℕ-discrete (sizeAt m (index w x y)) 0) [
           | yes z ↦ let p = apart-zero x y (t .column) (t .row) (sym (ends-size (t .ends)) ∙ z) in
-              absurd (true≢false (sym (t .metal .metal) ∙ sym (ap₂ copper (p .0) (p .1)) ∙ e))
+              absurd (true≢false (sym (t .on-copper .is-copper) ∙ sym (ap₂ copper (p .0) (p .1)) ∙ e))
           | no n ↦ omega arith
         ]
 
@@ -62,7 +62,7 @@ module _ (copper : Mask) (w h : ℕ) (wide : w ≤ maxSide) (tall : h ≤ maxSid
       pub row : ℕ
       pub across : column < w
       pub down : row < h
-      pub stays : kept m w h column row ≡ true
+      pub is-kept : kept m w h column row ≡ true
       pub disk : (zx zy : ℕ) → apart x y zx zy < sizeAt m (index w x y) → apart column row zx zy < sizeAt m (index w column row)
 
     itself : (x y : ℕ) → x < w → y < h → 0 < sizeAt m (index w x y) → removed m w h x y ≡ false → HeldBy x y
@@ -71,7 +71,7 @@ module _ (copper : Mask) (w h : ℕ) (wide : w ≤ maxSide) (tall : h ≤ maxSid
       row = y;
       across = a;
       down = b;
-      stays = simp (labelled x y a b, ne-eqb (sizeAt m (index w x y)) 0 (omega arith), r);
+      is-kept = simp (labelled x y a b, ne-eqb (sizeAt m (index w x y)) 0 (omega arith), r);
       disk = λ zx zy l. l;
     }
 
@@ -89,7 +89,7 @@ module _ (copper : Mask) (w h : ℕ) (wide : w ≤ maxSide) (tall : h ≤ maxSid
         go true e up =
             let i = removed-inside m w h x y e in
             let k = up i in
-            record { column = k .column; row = k .row; across = k .across; down = k .down; stays = k .stays; disk = λ zx zy q. k .disk zx zy (i .disk zx zy q) }
+            record { column = k .column; row = k .row; across = k .across; down = k .down; is-kept = k .is-kept; disk = λ zx zy q. k .disk zx zy (i .disk zx zy q) }
         go false e up = itself x y a b s e
 
     -- the disk of every bare pixel lies in that of a kept one
@@ -107,10 +107,10 @@ module _ (copper : Mask) (w h : ℕ) (wide : w ≤ maxSide) (tall : h ≤ maxSid
     bare-covered x y a b e =
         let k = kept-disk x y a b e in
         let here = k .disk x y (omega (arith, apart-self x y, bare-size x y a b e)) in
-        some-true w _ (k .column) (k .across)
-        (some-true h _ (k .row) (k .down)
+        any-true w _ (k .column) (k .across)
+        (any-true h _ (k .row) (k .down)
         (simp (
-          marked (k .column) (k .row) (k .across) (k .down) (k .stays),
+          marked (k .column) (k .row) (k .across) (k .down) (k .is-kept),
           labelled (k .column) (k .row) (k .across) (k .down),
           lt-ltb (apart x y (k .column) (k .row)) (sizeAt m (index w (k .column) (k .row))) (omega (arith, apart-swap x y (k .column) (k .row))),
         )))
@@ -118,10 +118,10 @@ module _ (copper : Mask) (w h : ℕ) (wide : w ≤ maxSide) (tall : h ≤ maxSid
     covered-bare : (x y : ℕ) → x < w → y < h → covered m w h (skeletonOf m w h) x y ≡ true → copper x y ≡ true → ⊥
     unfolding covered
     covered-bare x y a b e c =
-        let i = some-found w _ e in
-        let j = some-found h _ (i .passes) in
-        let l = ltb-true (apart x y (i .place) (j .place)) (sizeAt m (index w (i .place) (j .place))) (and-right (copperOf (skeletonOf m w h) w (i .place) (j .place) && _) _ (j .passes)) in
-        omega (arith, apart-swap x y (i .place) (j .place), disk-bare (i .place) (j .place) x y (i .below) (j .below) (record { across = a; down = b; metal = c }))
+        let i = any-found w _ e in
+        let j = any-found h _ (i .passes) in
+        let l = ltb-true (apart x y (i .witness) (j .witness)) (sizeAt m (index w (i .witness) (j .witness))) (and-right (copperOf (skeletonOf m w h) w (i .witness) (j .witness) && _) _ (j .passes)) in
+        omega (arith, apart-swap x y (i .witness) (j .witness), disk-bare (i .witness) (j .witness) x y (i .below) (j .below) (record { across = a; down = b; is-copper = c }))
 
     -- rebuilding gives exactly the bare pixels
     pub rebuilt-bare : rebuilt m w h (skeletonOf m w h) ≡ pixels w h (λ x y. cond (copper x y) 0 1)

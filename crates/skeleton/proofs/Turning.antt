@@ -26,7 +26,7 @@ module _ {m : List ℤ} {w h : ℕ} {out above row below : List ℕ} where
         let s = t .bands l in record {
           long = o .long ∙ t .long;
           rows = λ i j p q k. elim (decLt j y) [
-            | yes e ↦ o .under (index w i j) (omega (arith, mul-le-mul-right w e)) ∙ t .rows i j p q e
+            | yes e ↦ o .low-kept (index w i j) (omega (arith, mul-le-mul-right w e)) ∙ t .rows i j p q e
             | no e ↦ let d : j ≡ y = omega arith in rw d (o .here i p ∙ kept-is m w h i y p l (s .0) (s .1) b)
           ];
           bands = λ k. (s .1, b);

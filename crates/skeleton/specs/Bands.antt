@@ -10,7 +10,7 @@ use lib.ListN.{length, getD}
 use Rattle.raster.specs.Map.{sizeAt, unlabelledAt}
 use Rattle.raster.specs.Pixels.{index}
 use Rattle.skeleton.specs.Table.{g}
-use Rattle.skeleton.specs.Skeleton.{within, kept}
+use Rattle.skeleton.specs.Skeleton.{onSide, kept}
 
 -- a table of g4 or g8, n at the place n − 1
 pub record Listed (corner : Bool) (s : List ℕ) : Type 0 where
@@ -30,7 +30,7 @@ takenAt corner m p = g corner (counted (sizeAt m p))
 
 -- f of the pixel (i − 1, j − 1), 0 off the sheet
 abbrev pub onSheet : (w h : ℕ) (f : ℕ → ℕ) (i j : ℕ) → ℕ
-onSheet w h f i j = cond (within w i && within h j) (f (index w (i - 1) (j - 1))) 0
+onSheet w h f i j = cond (onSide w i && onSide h j) (f (index w (i - 1) (j - 1))) 0
 
 -- the n numbers from `start` on are f 0, f 1, ..
 pub record Part (start n : ℕ) (f : ℕ → ℕ) (s : List ℕ) : Type 0 where
@@ -48,7 +48,7 @@ pub record Blank (s : List ℕ) : Type 0 where
   pub zeros : Part 0 6150 (λ i. 0) s
 
 -- 0 at the ends, and between them the first n columns of the row that starts at `base`
-pub record Measured (m : List ℤ) (base w n : ℕ) (s : List ℕ) : Type 0 where
+pub record BandFilled (m : List ℤ) (base w n : ℕ) (s : List ℕ) : Type 0 where
   pub framed : Framed w s
   pub sizes : Part 1 n (λ x. ownAt m (base + x)) s
   pub sides : Part 2051 n (λ x. takenAt false m (base + x)) s

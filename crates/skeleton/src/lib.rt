@@ -11,7 +11,7 @@ ghost use lib.Dec.{eqb};
 ghost use lib.ListN.{length, getD};
 ghost use Rattle.raster.specs.Rows.{RowWritten};
 ghost use Rattle.skeleton.specs.Skeleton.{skeletonOf};
-ghost use Rattle.skeleton.specs.Bands.{Listed, counted, Framed, Blank, Measured, Band, keptIn, Turning};
+ghost use Rattle.skeleton.specs.Bands.{Listed, counted, Framed, Blank, BandFilled, Band, keptIn, Turning};
 
 // g4(n) at place n − 1: the least squared distance from a side neighbour of a place outside the disk of size n.
 const G4: [u16; 400] = [
@@ -857,7 +857,7 @@ fn own_size(unlabelled: bool, n: u32) -> u32
 fn measure_row(map: &[i16], base: usize, w: usize, g4: &[u16], g8: &[u16], band: &mut [u32])
     requires { ⌜ (2 * (base + w) ≤ length (now map)) × (w ≤ 2048) ⌝ }
     requires { ⌜ Listed false (now g4) × (Listed true (now g8) × Framed w (now band)) ⌝ }
-    ensures { λ _. ⌜ Measured (now (map .entry)) base w w (now (band .exit)) ⌝ }
+    ensures { λ _. ⌜ BandFilled (now (map .entry)) base w w (now (band .exit)) ⌝ }
 {
     for x in 0..w {
         let n = raster::size_at(map, base + x);
@@ -930,7 +930,7 @@ fn keep_row(out: &mut [u8], base: usize, w: usize, above: &[u32], row: &[u32], b
 }
 
 // Row y of the skeleton, if there is one, by the bands of that row and of the one above; `below` becomes the band of the one below.
-fn turn(
+fn row_turn(
     map: &[i16],
     out: &mut [u8],
     w: usize,
@@ -975,9 +975,9 @@ fn keep_rows(
     fill_band(map, w, h, 0, g4, g8, b);
     let mut y = 0;
     while y < h {
-        turn(map, out, w, h, y, g4, g8, a, b, c);
-        turn(map, out, w, h, y + 1, g4, g8, b, c, a);
-        turn(map, out, w, h, y + 2, g4, g8, c, a, b);
+        row_turn(map, out, w, h, y, g4, g8, a, b, c);
+        row_turn(map, out, w, h, y + 1, g4, g8, b, c, a);
+        row_turn(map, out, w, h, y + 2, g4, g8, c, a, b);
         y += 3;
     }
 }

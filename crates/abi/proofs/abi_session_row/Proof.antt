@@ -15,18 +15,18 @@ use Rattle.raster.specs.PixelsLaws.{nothing}
 use Rattle.raster.specs.Tests.{and-left, and-right}
 use Rattle.session.specs.declared.Session.{Session}
 use Rattle.session.specs.State.{active}
-use Rattle.session.specs.Calls.{hasRow, rowOf}
+use Rattle.session.specs.Calls.{hasRow, mapRow}
 use Rattle.session.proofs.Granted.{active-limits}
 use Rattle.abi.proofs.abi_session_row.Statement.{statement}
 use Rattle.abi.proofs.abi_session_row.Tie as tie
 
 -- what a row that is not empty is
 record Handed (s : Session) (map : List ℤ) (y : ℕ) : Type 0 where
-  long : length (rowOf s map y) ≡ 2 * s .width
+  long : length (mapRow s map y) ≡ 2 * s .width
   small : s .width ≤ 2048
-  part : take (2 * s .width) (drop (2 * (y * s .width)) map) ≡ rowOf s map y
+  part : take (2 * s .width) (drop (2 * (y * s .width)) map) ≡ mapRow s map y
 
-handed : (s : Session) (map : List ℤ) (y : ℕ) → (length (rowOf s map y) ≡ 0 → ⊥) → Handed s map y
+handed : (s : Session) (map : List ℤ) (y : ℕ) → (length (mapRow s map y) ≡ 0 → ⊥) → Handed s map y
 handed s map y some = go (hasRow s map y) refl some
   where
     row : List ℤ

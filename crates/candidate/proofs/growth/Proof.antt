@@ -13,7 +13,7 @@ use mir.ValLaws.{toZ-ofZ}
 use borrow.Author.Tests.{le-ltb, lt-ltb}
 use Rattle.raster.proofs.Signed.{minus-abs, wide-fits}
 use Rattle.raster.specs.Tests.{holds, fails}
-use Rattle.raster.specs.Vector.{Step}
+use Rattle.raster.specs.Vector.{UnitStep}
 use Rattle.raster.specs.VectorLaws.{add-abs}
 use Rattle.candidate.specs.Holding.{square}
 use Rattle.candidate.proofs.growth.Statement.{statement}
@@ -21,18 +21,18 @@ use Rattle.candidate.proofs.growth.Tie as tie
 
 -- ---- the three steps
 
-step-down : (o : ℤ) → Step o → T (ltZ o (pos 0)) → o ≡ negsuc 0
+step-down : (o : ℤ) → UnitStep o → T (ltZ o (pos 0)) → o ≡ negsuc 0
 step-down (pos n) s t = absurd (omega (arith, ltb→lt n 0 t))
 step-down (negsuc zero) s t = refl
 step-down (negsuc (suc n)) s t = absurd (omega arith)
 
-step-up : (o : ℤ) → Step o → T (ltZ (pos 0) o) → o ≡ pos 1
+step-up : (o : ℤ) → UnitStep o → T (ltZ (pos 0) o) → o ≡ pos 1
 step-up (pos zero) s t = absurd (omega (arith, ltb→lt 0 0 t))
 step-up (pos (suc zero)) s t = refl
 step-up (pos (suc (suc n))) s t = absurd (omega arith)
 step-up (negsuc n) s t = absurd t
 
-no-step : (o : ℤ) → Step o → T (not (ltZ o (pos 0))) → T (not (ltZ (pos 0) o)) → o ≡ pos 0
+no-step : (o : ℤ) → UnitStep o → T (not (ltZ o (pos 0))) → T (not (ltZ (pos 0) o)) → o ≡ pos 0
 no-step (pos zero) s t u = refl
 no-step (pos (suc n)) s t u = absurd (subst (λ (b : Bool). T (not b)) (lt-ltb 0 (suc n) (omega arith)) u)
 no-step (negsuc n) s t u = absurd t

@@ -10,7 +10,7 @@ use mir.ValLaws.{toZ-ofZ}
 use borrow.Author.Needs.{needs}
 use borrow.Author.Tests.{not-true, not-false, lt-ltb, le-ltb}
 use Rattle.raster.specs.Vector.{size, inRange}
-use Rattle.candidate.specs.declared.Held.{Held}
+use Rattle.candidate.specs.declared.SizedVector.{SizedVector}
 use Rattle.candidate.specs.Candidate.{allowed}
 use Rattle.candidate.specs.Holding.{Offered}
 use Rattle.candidate.proofs.Carried.{fits-dx, fits-dy}
@@ -54,7 +54,7 @@ size-is c =
     rw (+ℤ-idr (s .args .n .dy)) (simp (toZ-ofZ, s .fits .o) at (c .size-after .ensures))
 
 -- the candidate as the code has it
-abbrev candidate : tie.After-shifted → Held
+abbrev candidate : tie.After-shifted → SizedVector
 candidate c =
     let z = c .before .before .before .before in record {
       dx = toZ w32 (ofZ w32 (c .shifted .result));

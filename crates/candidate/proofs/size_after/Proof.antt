@@ -11,7 +11,7 @@ use mir.Val.{SFits}
 use mir.ValLaws.{toZ-ofZ}
 use Rattle.raster.proofs.Signed.{minus-abs, wide-fits}
 use Rattle.raster.specs.Tests.{and-left, and-right}
-use Rattle.raster.specs.Vector.{Step, size, inRange}
+use Rattle.raster.specs.Vector.{UnitStep, size, inRange}
 use Rattle.raster.specs.VectorLaws.{add-abs, range-abs}
 use Rattle.candidate.specs.Holding.{square}
 use Rattle.candidate.proofs.Carried.{forth-back}
@@ -19,7 +19,7 @@ use Rattle.candidate.proofs.size_after.Statement.{statement}
 use Rattle.candidate.proofs.size_after.Tie as tie
 
 -- what is in the range after a step is near before it
-near : (v o : ℤ) → Step o → natAbs (v +ℤ o) ≤ 2047 → natAbs v ≤ 2048
+near : (v o : ℤ) → UnitStep o → natAbs (v +ℤ o) ≤ 2047 → natAbs v ≤ 2048
 near v o s h =
     omega (arith, subst (λ (z : ℤ). natAbs z ≤ natAbs (v +ℤ o) + natAbs (negℤ o)) (forth-back v o) (add-abs (v +ℤ o) (negℤ o)), minus-abs o)
 

@@ -33,7 +33,7 @@ u-fits c = record { sfits = c .u .given }
 
 u-is : (c : tie.After-u Inv-loop μ-loop) → let l = c .before .before in let a = l .before .args in
     getD (l .loop .ways) (a .base + l .loop .x) (pos 0) ≡ getD (a .ways .now) (a .base + l .loop .x) (pos 0)
-u-is c = let l = c .before .before in l .loop .inv .done .over (l .before .args .base + l .loop .x) (omega arith)
+u-is c = let l = c .before .before in l .loop .inv .done .high-kept (l .before .args .base + l .loop .x) (omega arith)
 
 step-requires : tie.Need-step-requires Inv-loop μ-loop
 step-requires c κs =

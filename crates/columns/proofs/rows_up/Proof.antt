@@ -8,13 +8,13 @@ use lib.IntN.{ℤ, pos}
 use lib.ListN.{getD}
 use Rattle.raster.specs.Pixels.{index}
 use Rattle.columns.specs.Column.{shorter, isZero}
-use Rattle.columns.specs.Passes.{metal}
+use Rattle.columns.specs.Passes.{copperWays}
 use Rattle.columns.proofs.Passes.{Pass, pass-none, pass-room, pass-more, pass-all}
 use Rattle.columns.proofs.rows_up.Statement.{statement}
 use Rattle.columns.proofs.rows_up.Tie as tie
 
 abbrev Inv-loop : tie.InvT-loop
-Inv-loop ways₀ near₀ w h y₀ ways near y = Pass w h (λ t. h - 1 - t) (metal ways₀ w) (λ x y. shorter (getD ways₀ (index w x y) (pos 0))) ways₀ near₀ (h - y) ways near × (y ≤ h)
+Inv-loop ways₀ near₀ w h y₀ ways near y = Pass w h (λ t. h - 1 - t) (copperWays ways₀ w) (λ x y. shorter (getD ways₀ (index w x y) (pos 0))) ways₀ near₀ (h - y) ways near × (y ≤ h)
 
 abbrev μ-loop : tie.MeasureT-loop
 μ-loop ways₀ near₀ w h y₀ ways near y = y

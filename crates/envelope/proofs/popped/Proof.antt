@@ -16,13 +16,13 @@ abbrev μ-loop : tie.MeasureT-loop
 loop-holds : tie.Need-loop-holds Inv-loop μ-loop
 loop-holds c = search (needs, popping-all)
 
-place-requires : tie.Need-place-requires Inv-loop μ-loop
+place-requires : tie.Need-element-requires Inv-loop μ-loop
 place-requires c κs = let s = c .before .before .before .before in omega (arith, s .pre, c .before .loop .inv .0, s .pre .1 .0 .few)
 
-covers-requires : tie.Need-covers-requires Inv-loop μ-loop
+covers-requires : tie.Need-lies-above-requires Inv-loop μ-loop
 covers-requires c κs =
     let s = c .before .before .before .before .before in
-    popping-places (s .pre .0) (s .pre .1 .0) (s .pre .1 .1 .0) (c .before .before .loop .inv) (omega arith) (c .place .ensures)
+    popping-places (s .pre .0) (s .pre .1 .0) (s .pre .1 .1 .0) (c .before .before .loop .inv) (omega arith) (c .element .ensures)
 
 loop-again : tie.Need-loop-again Inv-loop μ-loop
 loop-again c = search (needs, popping-on)

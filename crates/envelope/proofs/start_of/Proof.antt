@@ -8,11 +8,11 @@ use Rattle.envelope.proofs.Turns.{neighbours, no-lower}
 use Rattle.envelope.proofs.start_of.Statement.{statement}
 use Rattle.envelope.proofs.start_of.Tie as tie
 
-abbrev start : tie.After-place2 → tie.Start
+abbrev start : tie.After-element2 → tie.Start
 start c = c .before .before .before .before
 
-on-line : (c : tie.After-place2) → (c .before .place .result < c .place2 .result) × (c .place2 .result < start c .args .n)
-on-line c = let s = start c in neighbours (s .args .j) (s .pre .1 .0) (s .pre .1 .1) (c .before .place .ensures) (c .place2 .ensures)
+on-line : (c : tie.After-element2) → (c .before .element .result < c .element2 .result) × (c .element2 .result < start c .args .n)
+on-line c = let s = start c in neighbours (s .args .j) (s .pre .1 .0) (s .pre .1 .1) (c .before .element .ensures) (c .element2 .ensures)
 
 height-requires : tie.Need-height-requires
 height-requires c κs = (omega (arith, on-line c, start c .pre .0), omega (arith, on-line c, start c .pre .0))
@@ -24,7 +24,7 @@ cross-requires : tie.Need-cross-requires
 cross-requires c κs =
     let b = c .before .before in
     let s = start b in
-    let u = no-lower (s .args .j) (s .pre .1 .0) (s .pre .1 .1) (b .before .place .ensures) (b .place2 .ensures) in
+    let u = no-lower (s .args .j) (s .pre .1 .0) (s .pre .1 .1) (b .before .element .ensures) (b .element2 .ensures) in
     (omega (arith, on-line b), (omega (arith, on-line b, s .pre .0), (omega (arith, u, c .before .height .ensures .0, c .height2 .ensures .0), c .height2 .ensures .1)))
 
 returns : tie.Need-returns

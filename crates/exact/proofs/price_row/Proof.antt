@@ -8,13 +8,13 @@ use mathlib.Core.Path.{_≡_, ap, _∙_}
 use mir.Syntax.{w32}
 use mir.Val.{SFits}
 use mir.ValLaws.{toZ-ofZ}
-use Rattle.exact.specs.Rows.{costOf, costsOf}
+use Rattle.exact.specs.Rows.{wayCost, costsOf}
 use Rattle.raster.proofs.Writing.{Writing, write-none, write-more}
 use Rattle.exact.proofs.price_row.Statement.{statement}
 use Rattle.exact.proofs.price_row.Tie as tie
 
 abbrev Inv-loop : tie.InvT-loop
-Inv-loop ways n cost₀ k₀ cost k = Writing (λ j. costOf (getD ways j (pos 0))) cost₀ k cost × (k ≤ n)
+Inv-loop ways n cost₀ k₀ cost k = Writing (λ j. wayCost (getD ways j (pos 0))) cost₀ k cost × (k ≤ n)
 
 abbrev μ-loop : tie.MeasureT-loop
 μ-loop ways n cost₀ k₀ cost k = n - k
@@ -29,7 +29,7 @@ cost-of-requires c κs = simp (toZ-ofZ, way-fits c) (c .way-at .ensures .1)
 loop-again : tie.Need-loop-again Inv-loop μ-loop
 loop-again c =
     let v = c .before in
-    (write-more _ _ (v .before .before .loop .inv .0) (omega arith) ((simp (toZ-ofZ, way-fits v) at (c .cost-of .ensures)) ∙ ap costOf (v .way-at .ensures .0)), omega arith)
+    (write-more _ _ (v .before .before .loop .inv .0) (omega arith) ((simp (toZ-ofZ, way-fits v) at (c .cost-of .ensures)) ∙ ap wayCost (v .way-at .ensures .0)), omega arith)
 
 returns : tie.Need-returns Inv-loop μ-loop
 unfolding costsOf

@@ -23,11 +23,11 @@ abbrev μ-loop : tie.MeasureT-loop
 μ-loop map₀ base n ways site start count c₀ to₀ map c to = c
 
 -- the site of the entry lies on the row
-on-row : (c : tie.After-place2 Inv-loop μ-loop) → c .place2 .result < c .before .before .before .before .before .before .before .args .n
+on-row : (c : tie.After-element2 Inv-loop μ-loop) → c .element2 .result < c .before .before .before .before .before .before .before .args .n
 on-row c =
     let l = c .before .before .before .before in
     let s = l .before .before .before in
-    rw (c .place2 .ensures) (s .pre .1 .1 (l .loop .c - 1) (omega arith))
+    rw (c .element2 .ensures) (s .pre .1 .1 (l .loop .c - 1) (omega arith))
 
 way-at-requires : tie.Need-way-at-requires Inv-loop μ-loop
 way-at-requires c κs = omega (arith, on-row (c .before))
@@ -44,15 +44,15 @@ loop-again c =
     let f = p .before .before in
     let i = f .before .before .loop .inv in
     let e = toZ-ofZ w32 _ (record { sfits = v .way-at .ok }) ∙ v .way-at .ensures .0 in
-    let top = unstack-top (i .0) (omega arith) (f .place .ensures) in (
-      unstack-more (i .0) (omega arith) (f .place .ensures) (omega arith) (omega arith),
-      run-join (omega arith) (i .0 .on) (i .1) (c .before .write-run .ensures) (λ x a b. (top x a b ∙ sym (p .place2 .ensures), rw e)),
+    let top = unstack-top (i .0) (omega arith) (f .element .ensures) in (
+      unstack-more (i .0) (omega arith) (f .element .ensures) (omega arith) (omega arith),
+      run-join (omega arith) (i .0 .on) (i .1) (c .before .write-run .ensures) (λ x a b. (top x a b ∙ sym (p .element2 .ensures), rw e)),
     )
 
 loop-again-2 : tie.Need-loop-again-2 Inv-loop μ-loop
 loop-again-2 c =
     let i = c .before .before .before .loop .inv in
-    (unstack-more (i .0) (omega arith) (c .before .place .ensures) (omega arith) (omega arith), i .1)
+    (unstack-more (i .0) (omega arith) (c .before .element .ensures) (omega arith) (omega arith), i .1)
 
 returns : tie.Need-returns Inv-loop μ-loop
 returns c =

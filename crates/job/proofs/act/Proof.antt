@@ -6,7 +6,7 @@ use native.Mathlib.Nat.{le-antisymm}
 use native.Mathlib.Omega.{arith}
 use lib.ListN.{length, drop, length-drop}
 use borrow.Author.Needs.{needs}
-use Rattle.records.specs.Format.{word, sizeOf, orderHere}
+use Rattle.records.specs.Format.{word, lengthOf, recordHere}
 use Rattle.records.specs.FormatLaws.{room}
 use Rattle.job.specs.ObeyLaws.{beyond, paint-obeyed, erase-obeyed, build-obeyed, expand-obeyed, shrink-obeyed}
 use Rattle.job.proofs.act.Statement.{statement}
@@ -18,7 +18,7 @@ word-at-requires c κs =
 
 -- the record has the bytes of its kind, and the sheet buffer what is lent of it
 fits : (c : tie.After-word-at) (j : ℕ) → c .word-at .result ≡ j → let t = c .before .before .before in
-    (t .args .at + sizeOf j ≤ length (t .args .job .now)) × (t .args .n ≤ length (t .args .sheet .now))
+    (t .args .at + lengthOf j ≤ length (t .args .job .now)) × (t .args .n ≤ length (t .args .sheet .now))
 fits c j e = let t = c .before .before .before in (room (t .args .job .now) (t .args .at) j (t .pre .0) (c .word-at .ensures) e, t .pre .1 .1)
 
 -- its kind
@@ -26,7 +26,7 @@ kind : (c : tie.After-word-at) {j : ℕ} → c .word-at .result ≡ j → let a 
 kind c e = sym (c .word-at .ensures) ∙ e
 
 returns : tie.Need-returns
-unfolding orderHere
+unfolding recordHere
 returns c =
     let p = c .before .before in
     let i = p .before .before in
@@ -34,7 +34,7 @@ returns c =
     rw (kind (i .before) (i .if1 .taken)) (paint-obeyed (a .map .now) (a .scratch .now) (p .obey-paint .ensures))
 
 returns-2 : tie.Need-returns-2
-unfolding orderHere
+unfolding recordHere
 returns-2 c =
     let p = c .before .before in
     let i = p .before .before in
@@ -43,7 +43,7 @@ returns-2 c =
     rw (kind w (i .if2 .taken)) (erase-obeyed (a .map .now) (a .scratch .now) (p .obey-erase .ensures))
 
 returns-3 : tie.Need-returns-3
-unfolding orderHere
+unfolding recordHere
 returns-3 c =
     let p = c .before .before in
     let i = p .before .before .before .before in
@@ -51,28 +51,28 @@ returns-3 c =
     rw (kind w (i .if3 .taken)) (build-obeyed (w .before .before .before .pre .1 .1) (p .obey-build .ensures))
 
 returns-4 : tie.Need-returns-4
-unfolding orderHere
+unfolding recordHere
 returns-4 c =
     let i = c .before .before in
     let r = c .obey-place .ensures in
     rw (kind (i .before .before .before .before) (i .if4 .taken)) (record { answer = r .0; left = rw (← r .0, r .1) })
 
 returns-5 : tie.Need-returns-5
-unfolding orderHere
+unfolding recordHere
 returns-5 c =
     let i = c .before .before in
     let r = c .obey-run .ensures in
     rw (kind (i .before .before .before .before .before) (i .if5 .taken)) (record { answer = r .0; left = rw (← r .0, r .1) })
 
 returns-6 : tie.Need-returns-6
-unfolding orderHere
+unfolding recordHere
 returns-6 c =
     let i = c .before in
     let r = c .lift .ensures in
     rw (kind (i .before .before .before .before .before .before) (i .if6 .taken)) (record { answer = r .0; left = rw (r .1) })
 
 returns-7 : tie.Need-returns-7
-unfolding orderHere
+unfolding recordHere
 returns-7 c =
     let p = c .before .before .before .before in
     let i = p .before .before .before .before in
@@ -91,7 +91,7 @@ nine c =
     le-antisymm (rw (w .word-at .ensures) (t .pre .0 .known .1)) nine
 
 returns-8 : tie.Need-returns-8
-unfolding orderHere
+unfolding recordHere
 returns-8 c =
     let p = c .before .before .before .before in
     let i = p .before .before .before .before in
@@ -99,7 +99,7 @@ returns-8 c =
     rw (kind w (nine i)) (shrink-obeyed (w .before .before .before .pre .1 .1) (p .obey-shrink .ensures))
 
 pub act-spec : {M : Type 1} → statement M
-unfolding sizeOf
+unfolding lengthOf
 act-spec =
     tie.close
     (tie.spec

@@ -4,7 +4,7 @@ use mathlib.Core.Path.{sym, _∙_}
 use native.Mathlib.Omega.{arith}
 use lib.ListN.{length-drop}
 use borrow.Author.Needs.{needs}
-use Rattle.records.specs.Format.{sizeOf, orderHere}
+use Rattle.records.specs.Format.{lengthOf, recordHere}
 use Rattle.records.specs.FormatLaws.{room}
 use Rattle.job.specs.ObeyLaws.{open-obeyed}
 use Rattle.job.proofs.obey.Statement.{statement}
@@ -15,7 +15,7 @@ word-at-requires c κs =
     let t = c .before .before in omega (arith, length-drop (t .args .at) (t .args .job .now), t .pre .0 .header)
 
 obey-open-requires : tie.Need-obey-open-requires
-unfolding sizeOf
+unfolding lengthOf
 obey-open-requires c κs =
     let i = c .before in
     let w = i .before in
@@ -23,7 +23,7 @@ obey-open-requires c κs =
     (room (t .args .job .now) (t .args .at) 1 (t .pre .0) (w .word-at .ensures) (i .if1 .taken), t .pre .1)
 
 returns : tie.Need-returns
-unfolding orderHere
+unfolding recordHere
 returns c =
     let p = c .before .before in
     let i = p .before .before in

@@ -14,16 +14,16 @@ returns c =
     let e = m .before in
     let a = e .before .before .before .args in
     let numbers = m .first-pairs .ensures .0 in
-    let worn = f .first .ensures .0 in
+    let used = f .first .ensures .0 in
     rw (← e .word-at .ensures)
     (record {
-      answer = rw (← upto-take (2 * a .n) (a .map .now) numbers, ← upto-take (a .n) (a .scratch .now) worn) (p .build .ensures .0);
+      answer = rw (← upto-take (2 * a .n) (a .map .now) numbers, ← upto-take (a .n) (a .scratch .now) used) (p .build .ensures .0);
       session = p .build .ensures .1 .0;
       lent-map =
           rw (upto-lent (2 * a .n) (a .map .now) (p .build .last .1 .1 .0) numbers (p .build .kept .1 .1 .0), ← upto-take (2 * a .n) (a .map .now) numbers)
           (p .build .ensures .1 .1 .0);
       behind-map = upto-behind (2 * a .n) (a .map .now) (p .build .last .1 .1 .0) numbers (p .build .kept .1 .1 .0);
-      left-scratch = rw (← upto-take (a .n) (a .scratch .now) worn, ← upto-drop (a .n) (a .scratch .now) worn, p .build .ensures .1 .1 .1);
+      left-scratch = rw (← upto-take (a .n) (a .scratch .now) used, ← upto-drop (a .n) (a .scratch .now) used, p .build .ensures .1 .1 .1);
     })
 
 pub obey-build-spec : {M : Type 1} → statement M

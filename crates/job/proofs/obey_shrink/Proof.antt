@@ -14,11 +14,11 @@ returns c =
     let q = m .before in
     let a = q .before .before .before .args in
     let numbers = m .first-pairs .ensures .0 in
-    let worn = f .first .ensures .0 in
+    let used = f .first .ensures .0 in
     rw (← q .long-at .ensures)
     (record {
       answer =
-          rw (← upto-take (2 * a .n) (a .map .now) numbers, ← upto-take (a .n) (a .scratch .now) worn) (p .shrink .ensures .0);
+          rw (← upto-take (2 * a .n) (a .map .now) numbers, ← upto-take (a .n) (a .scratch .now) used) (p .shrink .ensures .0);
       session = p .shrink .ensures .1 .0;
       lent-sheet =
           rw (part-lent (a .n) (a .sheet .now) (p .shrink .last .1 .0) (p .shrink .kept .1 .0)) (p .shrink .ensures .1 .1 .0);
@@ -28,7 +28,7 @@ returns c =
           (p .shrink .ensures .1 .1 .1 .0);
       behind-map = upto-behind (2 * a .n) (a .map .now) (p .shrink .last .1 .1 .0) numbers (p .shrink .kept .1 .1 .0);
       left-scratch =
-          rw (← upto-take (a .n) (a .scratch .now) worn, ← upto-drop (a .n) (a .scratch .now) worn, p .shrink .ensures .1 .1 .1 .1);
+          rw (← upto-take (a .n) (a .scratch .now) used, ← upto-drop (a .n) (a .scratch .now) used, p .shrink .ensures .1 .1 .1 .1);
     })
 
 pub obey-shrink-spec : {M : Type 1} → statement M

@@ -4,15 +4,15 @@ use mathlib.Core.Path.{refl}
 use native.Mathlib.Omega.{arith}
 use borrow.Author.Needs.{needs}
 use Rattle.records.specs.FormatLaws.{split-done, split-refused}
-use Rattle.records.specs.Text.{digits, line}
+use Rattle.records.specs.Text.{decimalDigits, answerLine}
 use Rattle.records.specs.TextLaws.{put-front}
-use Rattle.job.specs.Run.{textOf, printed, benchLeft}
+use Rattle.job.specs.Run.{textOf, printed, stateLeft}
 use Rattle.job.specs.RunLaws.{no-room-to-refuse, not-split, no-room-to-run, run-whole}
 use Rattle.job.proofs.run.Statement.{statement}
 use Rattle.job.proofs.run.Tie as tie
 
 returns : tie.Need-returns
-unfolding printed benchLeft
+unfolding printed stateLeft
 returns c =
     let s = c .before .before .before in
     let a = s .before .before .before .before .args in
@@ -20,11 +20,11 @@ returns c =
     (refl, (refl, (refl, (refl, (refl, refl)))))
 
 put-line-requires : tie.Need-put-line-requires
-unfolding line digits
+unfolding answerLine decimalDigits
 put-line-requires c κs = omega arith
 
 returns-2 : tie.Need-returns-2
-unfolding printed textOf benchLeft
+unfolding printed textOf stateLeft
 returns-2 c =
     let p = c .before .before in
     let i = p .before .before in
@@ -35,7 +35,7 @@ returns-2 c =
     rw (not-split (a .job .now) (a .out .now) is (i .if2 .left), is) (refl, (f .0, (f .1, (refl, (refl, refl)))))
 
 returns-3 : tie.Need-returns-3
-unfolding printed benchLeft
+unfolding printed stateLeft
 returns-3 c =
     let i = c .before .before in
     let s = i .before .before in
@@ -52,7 +52,7 @@ run-all-requires c κs =
     (d .0, omega (arith, d .1, r .if3 .left))
 
 returns-4 : tie.Need-returns-4
-unfolding printed textOf benchLeft
+unfolding printed textOf stateLeft
 returns-4 c =
     let p = c .before .before .before .before .before .before in
     let r = p .before .before .before .before .before in

@@ -5,8 +5,8 @@ use Prim.Native.Nat.{_+_, _-_, _≤_}
 use native.Mathlib.Omega.{arith}
 use lib.ListN.{length}
 use borrow.Author.Needs.{needs}
-use Rattle.records.specs.Text.{line}
-use Rattle.job.specs.Run.{benchOf, startOf}
+use Rattle.records.specs.Text.{answerLine}
+use Rattle.job.specs.Run.{jobState, startState}
 use Rattle.job.specs.Obey.{Running}
 use Rattle.job.specs.RunLaws.{job-limit, running-start, running-size, running-line, running-here, running-room, running-turn, running-end, running-left, buffers}
 use Rattle.job.proofs.run_all.Statement.{statement}
@@ -14,7 +14,7 @@ use Rattle.job.proofs.run_all.Tie as tie
 
 abbrev Inv-loop : tie.InvT-loop
 Inv-loop job sheet₀ map₀ scratch₀ out₀ s₀ n₀ at₀ i₀ end₀ sheet map scratch out s n at i end =
-    Running job (startOf sheet₀ map₀ scratch₀) out₀ i at end (benchOf s n sheet map scratch) out
+    Running job (startState sheet₀ map₀ scratch₀) out₀ i at end (jobState s n sheet map scratch) out
     × (n ≤ length sheet) × (length sheet ≡ length sheet₀) × (length map ≡ length map₀) × (length scratch ≡ length scratch₀) × (length out ≡ length out₀)
 
 abbrev μ-loop : tie.MeasureT-loop
@@ -30,17 +30,17 @@ obey-requires c κs =
     let l = c .before .before .before .before in (running-here (l .loop .inv .0) (c .before .before .before .loop-test .taken), l .loop .inv .1)
 
 -- the line of the record
-nine : (c : tie.After-obey Inv-loop μ-loop) → length (line (c .before .before .before .before .before .loop .i + 1) (c .obey .result .answer)) ≤ 9
+nine : (c : tie.After-obey Inv-loop μ-loop) → length (answerLine (c .before .before .before .before .before .loop .i + 1) (c .obey .result .answer)) ≤ 9
 nine c =
     let l = c .before .before .before .before .before in
     running-line (l .loop .inv .0) (c .before .before .before .before .loop-test .taken) (l .before .before .before .before .before .pre .0) (c .obey .ensures .0)
 
 -- the record's end
-ends : (c : tie.After-size-at Inv-loop μ-loop) → let l = c .before .before .before .before .before .before .before .before .before .before .before .before .before .before in
-    (1 ≤ c .size-at .result) × (l .loop .at + c .size-at .result ≤ length (l .before .before .before .before .before .args .job .now))
+ends : (c : tie.After-length-at Inv-loop μ-loop) → let l = c .before .before .before .before .before .before .before .before .before .before .before .before .before .before in
+    (1 ≤ c .length-at .result) × (l .loop .at + c .length-at .result ≤ length (l .before .before .before .before .before .args .job .now))
 ends c =
     let t = c .before .before .before .before .before .before .before .before .before .before .before .before .before in
-    running-size (t .before .loop .inv .0) (t .loop-test .taken) (c .size-at .ensures)
+    running-size (t .before .loop .inv .0) (t .loop-test .taken) (c .length-at .ensures)
 
 add-i : tie.Need-add-i Inv-loop μ-loop
 add-i c =
@@ -62,7 +62,7 @@ loop-again c =
     let o = p .before .before .before .before .before .before in
     let l = o .before .before .before .before .before in
     let more = o .before .before .before .before .loop-test .taken in (
-      running-turn (l .loop .inv .0) more (z .size-at .ensures) (o .obey .ensures .0) (p .put-line .ensures) (nine o),
+      running-turn (l .loop .inv .0) more (z .length-at .ensures) (o .obey .ensures .0) (p .put-line .ensures) (nine o),
       o .obey .ensures .1,
       o .obey .kept .1 .1 .1 .1 .0 ∙ l .loop .inv .2,
       o .obey .kept .1 .1 .1 .1 .1 .0 ∙ l .loop .inv .3,

@@ -19,7 +19,7 @@ abbrev μ-loop : tie.MeasureT-loop
 loop-again : tie.Need-loop-again Inv-loop μ-loop
 loop-again c =
     let l = c .before .before .before .loop in
-    write-more _ _ (l .inv) (omega arith) (c .turn .ensures ∙ ap turned (write-rest _ _ (l .inv) (l .p) 0 (omega arith)))
+    write-more _ _ (l .inv) (omega arith) (c .inverted .ensures ∙ ap turned (write-rest _ _ (l .inv) (l .p) 0 (omega arith)))
 
 returns : tie.Need-returns Inv-loop μ-loop
 unfolding flipped

@@ -7,7 +7,7 @@ use native.Mathlib.Numerals.{add-one}
 use native.Mathlib.Omega.{arith}
 use lib.Dec.{eqb}
 use borrow.Author.Needs.{needs}
-use Rattle.raster.specs.Loop.{some}
+use Rattle.raster.specs.Loop.{anyBelow}
 use Rattle.raster.specs.Map.{hasCopper}
 use Rattle.raster.proofs.has_copper.Statement.{statement}
 use Rattle.raster.proofs.has_copper.Tie as tie
@@ -19,11 +19,11 @@ abbrev μ-loop : tie.MeasureT-loop
 μ-loop map n found₀ p₀ found p = n - p
 
 loop-holds : tie.Need-loop-holds Inv-loop μ-loop
-unfolding hasCopper some
+unfolding hasCopper anyBelow
 loop-holds c = (refl, search needs)
 
 loop-again : tie.Need-loop-again Inv-loop μ-loop
-unfolding hasCopper some
+unfolding hasCopper anyBelow
 loop-again c = (rw add-one (ap₂ (λ (a : ℕ) (b : Bool). eqb a 0 || b) (c .size-at .ensures .0) (c .before .before .loop .inv .0)), omega arith)
 
 returns : tie.Need-returns Inv-loop μ-loop

@@ -1,4 +1,4 @@
--- `rebuild::cost_of` meets its contract: the two tests of `costOf`, one after the other.
+-- `rebuild::cost_of` meets its contract: the two tests of `markCost`, one after the other.
 -- Assumes nothing.
 use native.Mathlib.Omega.{arith}
 use borrow.Author.Needs.{needs}

@@ -22,7 +22,7 @@ loop-again c =
     let p = c .before .before in
     let l = p .before .before in
     let i = l .loop .inv .0 in
-    (row-more i (omega arith) (c .over .ensures ∙ rw (p .place .ensures, i .over (l .before .before .before .args .base + l .loop .x) (omega arith))), omega arith)
+    (row-more i (omega arith) (c .covered-or .ensures ∙ rw (p .element .ensures, i .high-kept (l .before .before .before .args .base + l .loop .x) (omega arith))), omega arith)
 
 returns : tie.Need-returns Inv-loop μ-loop
 returns c =

@@ -26,22 +26,22 @@ abbrev begin : tie.In-loop Inv-loop μ-loop → tie.Start Inv-loop μ-loop
 begin l = l .before .before .before .before .before .before
 
 -- the site of the entry lies on the row, and is one
-on-row : (c : tie.After-place2 Inv-loop μ-loop) → c .place2 .result < begin (turn (c .before)) .args .n
+on-row : (c : tie.After-element2 Inv-loop μ-loop) → c .element2 .result < begin (turn (c .before)) .args .n
 on-row c =
     let l = turn (c .before) in
-    rw (c .place2 .ensures) (begin l .pre .1 .1 .0 .seen (l .before .loop .c - 1) (omega (arith, l .before .loop .inv .0 .few)))
+    rw (c .element2 .ensures) (begin l .pre .1 .1 .0 .seen (l .before .loop .c - 1) (omega (arith, l .before .loop .inv .0 .few)))
 
-real : (c : tie.After-place2 Inv-loop μ-loop) → Site (begin (turn (c .before)) .args .cost .now) (c .place2 .result)
+real : (c : tie.After-element2 Inv-loop μ-loop) → Site (begin (turn (c .before)) .args .cost .now) (c .element2 .result)
 real c =
     let l = turn (c .before) in
-    rw (c .place2 .ensures) (begin l .pre .1 .1 .0 .real (l .before .loop .c - 1) (omega (arith, l .before .loop .inv .0 .few)))
+    rw (c .element2 .ensures) (begin l .pre .1 .1 .0 .real (l .before .loop .c - 1) (omega (arith, l .before .loop .inv .0 .few)))
 
 raise-run-requires : tie.Need-raise-run-requires Inv-loop μ-loop
 raise-run-requires c κs =
     let p = c .before .before in
     let l = turn (p .before) in
     let s = begin l in
-    let g = s .pre .1 .1 .1 (p .place2 .result) (on-row p) (real p) in
+    let g = s .pre .1 .1 .1 (p .element2 .result) (on-row p) (real p) in
     omega (arith, on-row p, c .cost-at .ensures .0, l .before .loop .inv .0 .on, l .before .loop .inv .1 .long)
 
 loop-again : tie.Need-loop-again Inv-loop μ-loop
@@ -52,17 +52,17 @@ loop-again c =
     let f = p .before .before in
     let l = turn (p .before) in
     let i = l .before .loop .inv in
-    let site = ne-eqb (p .place2 .result) noSite (omega (arith, on-row p, begin l .pre .0)) in
-    let top = unstack-top (i .0) (omega arith) (f .place .ensures) in (
-      unstack-more (i .0) (omega arith) (f .place .ensures) (omega arith) (omega arith),
-      lift-join (omega arith) (i .0 .on) (i .1) (r .raise-run .ensures) (λ x a b k. rw (top x a b, ← p .place2 .ensures, site, ← g .cost-at .ensures .0)),
+    let site = ne-eqb (p .element2 .result) noSite (omega (arith, on-row p, begin l .pre .0)) in
+    let top = unstack-top (i .0) (omega arith) (f .element .ensures) in (
+      unstack-more (i .0) (omega arith) (f .element .ensures) (omega arith) (omega arith),
+      lift-join (omega arith) (i .0 .on) (i .1) (r .raise-run .ensures) (λ x a b k. rw (top x a b, ← p .element2 .ensures, site, ← g .cost-at .ensures .0)),
     )
 
 loop-again-2 : tie.Need-loop-again-2 Inv-loop μ-loop
 loop-again-2 c =
     let f = c .before in
     let i = f .before .before .loop .inv in
-    (unstack-more (i .0) (omega arith) (f .place .ensures) (omega arith) (omega arith), i .1)
+    (unstack-more (i .0) (omega arith) (f .element .ensures) (omega arith) (omega arith), i .1)
 
 returns : tie.Need-returns Inv-loop μ-loop
 returns c = let i = c .before .loop .inv in lift-join (omega arith) (i .0 .on) (i .1) lift-bare (λ x a b k. rw (unstack-all (i .0) (omega arith) x b))

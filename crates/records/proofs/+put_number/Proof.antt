@@ -7,8 +7,8 @@ use Prim.Native.Nat.{ℕ, _+_, _-_, _/_, _%_, _<_}
 use native.Mathlib.Omega.{arith}
 use lib.ListN.{length, length-append}
 use borrow.Author.Needs.{needs}
-use Rattle.records.specs.Text.{digits}
-use Rattle.records.specs.TextLaws.{put-none, put-more, digits-one, digits-more}
+use Rattle.records.specs.Text.{decimalDigits}
+use Rattle.records.specs.TextLaws.{put-none, put-more, digits-last, digits-more}
 use borrow.Fn.Kinds.{In}
 use borrow.Fn.PlainCycle.{Measures, is, falls, and}
 use Rattle.records.proofs.put_number.Reads as put-number
@@ -29,7 +29,7 @@ abbrev put-number-below : ℕ → In 1 put-number-kinds.ps
 put-number-below t = and 1 put-number-kinds.ps (falls 1 put-number-kinds.ps _<_ μ-put-number t) put-number.Pre
 
 pub +put-number-spec : {M : Type 1} → statement M
-unfolding digits
+unfolding decimalDigits
 +put-number-spec = close μ-put-number λ t. put-number-lts.spec (
   digit-reads.Asked,
   digit-reads.Learnt,
@@ -47,20 +47,20 @@ unfolding digits
     (λ c κs.
     let i = c .before .before in
     let a = i .before .before .before .args in
-    omega (arith, ap length (digits-one (a .most) (a .n) (i .before .if1 .left) (i .if2 .taken))))
+    omega (arith, ap length (digits-last (a .most) (a .n) (i .before .if1 .left) (i .if2 .taken))))
     (λ c. search needs)
     (λ c.
     let p = c .before .before in
     let i = p .before .before .before in
     let a = i .before .before .before .args in
-    rw (digits-one (a .most) (a .n) (i .before .if1 .left) (i .if2 .taken), ← p .before .digit .ensures) (p .put-byte .ensures))
+    rw (digits-last (a .most) (a .n) (i .before .if1 .left) (i .if2 .taken), ← p .before .digit .ensures) (p .put-byte .ensures))
     -- the digits before the last: fewer at most, and they have their room
     (λ c. omega (arith, c .before .before .if1 .left))
     (λ c κs.
     let i = c .before in
     let a = i .before .before .before .args in
     let d = digits-more (a .most) (a .n) (i .before .if1 .left) (omega arith) in
-    (omega (arith, i .before .if1 .left), omega (arith, ap length d, length-append (digits (a .most - 1) (a .n / 10)) ((48 + a .n % 10) ∷ []))))
+    (omega (arith, i .before .if1 .left), omega (arith, ap length d, length-append (decimalDigits (a .most - 1) (a .n / 10)) ((48 + a .n % 10) ∷ []))))
     -- the last digit likewise, and behind the others it completes the number
     (λ c κs. omega arith)
     (λ c κs.
@@ -68,7 +68,7 @@ unfolding digits
     let i = p .before .before in
     let a = i .before .before .before .args in
     let d = digits-more (a .most) (a .n) (i .before .if1 .left) (omega arith) in
-    omega (arith, p .put-number .ensures .ends, p .put-number .kept .0, ap length d, length-append (digits (a .most - 1) (a .n / 10)) ((48 + a .n % 10) ∷ [])))
+    omega (arith, p .put-number .ensures .ends, p .put-number .kept .0, ap length d, length-append (decimalDigits (a .most - 1) (a .n / 10)) ((48 + a .n % 10) ∷ [])))
     (λ c. search needs)
     (λ c.
     let b = c .before .before in

@@ -2,7 +2,7 @@
 -- Assumes nothing.
 use native.Mathlib.Omega.{arith}
 use borrow.Author.Needs.{needs}
-use Rattle.records.specs.Text.{line}
+use Rattle.records.specs.Text.{answerLine}
 use Rattle.records.specs.TextLaws.{put-more, line-length}
 use Rattle.records.proofs.put_line.Statement.{statement}
 use Rattle.records.proofs.put_line.Tie as tie
@@ -41,7 +41,7 @@ put-byte-requires-2 c κs =
     )
 
 returns : tie.Need-returns
-unfolding line
+unfolding answerLine
 returns c =
     let e = c .before .before in
     let m = e .before .before .before .before in

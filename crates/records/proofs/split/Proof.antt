@@ -6,15 +6,15 @@ use native.Mathlib.Omega.{arith}
 use lib.ListN.{length, drop, length-drop}
 use borrow.Author.Needs.{needs}
 use borrow.Author.Tests.{le-leb, lt-leb}
-use Rattle.records.specs.Format.{splits, ordersIn, isJob, ordersOf, splitOf}
-use Rattle.records.specs.FormatLaws.{size-fits, splits-turn, orders-turn, splits-not, splits-end, orders-end}
+use Rattle.records.specs.Format.{splits, recordsIn, isJob, recordsOf, splitOf}
+use Rattle.records.specs.FormatLaws.{size-fits, splits-turn, records-turn, splits-not, splits-end, records-end}
 use Rattle.records.proofs.split.Statement.{statement}
 use Rattle.records.proofs.split.Tie as tie
 
 abbrev Inv-loop : tie.InvT-loop
 Inv-loop job at₀ records₀ at records =
     (splits (length job) job ≡ splits (length job - records) (drop at job))
-    × ((length (ordersIn (length job) job) ≡ records + length (ordersIn (length job - records) (drop at job)))
+    × ((length (recordsIn (length job) job) ≡ records + length (recordsIn (length job - records) (drop at job)))
     × ((records ≤ at) × (at ≤ length job)))
 
 abbrev μ-loop : tie.MeasureT-loop
@@ -31,19 +31,19 @@ loop-holds c =
     rw z (refl, (omega arith, (omega arith, omega arith)))
 
 -- the record ends within the bytes
-fits : (c : tie.After-size-at Inv-loop μ-loop) → let l = c .before .before in
-    l .loop .at + c .size-at .result ≤ length (l .before .before .before .args .job .now)
+fits : (c : tie.After-length-at Inv-loop μ-loop) → let l = c .before .before in
+    l .loop .at + c .length-at .result ≤ length (l .before .before .before .args .job .now)
 fits c =
     let l = c .before .before in
     let j = l .before .before .before .args .job .now in
-    omega (arith, size-fits (drop (l .loop .at) j), length-drop (l .loop .at) j, c .size-at .ensures)
+    omega (arith, size-fits (drop (l .loop .at) j), length-drop (l .loop .at) j, c .length-at .ensures)
 
 returns-2 : tie.Need-returns-2 Inv-loop μ-loop
 unfolding splitOf isJob
 returns-2 c =
     let l = c .before .before .before in
     let j = l .before .before .before .args .job .now in
-    let n = splits-not j (l .loop .records) (l .loop .at) (c .before .size-at .ensures) (omega arith) (omega arith) (c .if2 .taken) in
+    let n = splits-not j (l .loop .records) (l .loop .at) (c .before .length-at .ensures) (omega arith) (omega arith) (c .if2 .taken) in
     rw (le-leb (length j) 65536 (omega arith), l .loop .inv .0, n)
 
 loop-again : tie.Need-loop-again Inv-loop μ-loop
@@ -51,20 +51,20 @@ loop-again c =
     let l = c .before .before .before in
     let j = l .before .before .before .args .job .now in
     let i = l .loop .records in
-    let e = c .before .size-at .ensures in
-    let o = orders-turn j i (l .loop .at) e (omega arith) (omega arith) in (
+    let e = c .before .length-at .ensures in
+    let o = records-turn j i (l .loop .at) e (omega arith) (omega arith) in (
       l .loop .inv .0 ∙ splits-turn j i (l .loop .at) e (omega arith) (omega arith) (c .if2 .left),
       (omega (arith, l .loop .inv .1 .0, ap length o), (omega arith, fits (c .before))),
     )
 
 returns-3 : tie.Need-returns-3 Inv-loop μ-loop
-unfolding splitOf isJob ordersOf
+unfolding splitOf isJob recordsOf
 returns-3 c =
     let l = c .before in
     let j = l .before .before .before .args .job .now in
     let d : length (drop (l .loop .at) j) ≡ 0 = omega (arith, length-drop (l .loop .at) j) in
-    let o = orders-end (length j - l .loop .records) (drop (l .loop .at) j) d in
-    let n : length (ordersIn (length j) j) ≡ l .loop .records = omega (arith, l .loop .inv .1 .0, ap length o) in
+    let o = records-end (length j - l .loop .records) (drop (l .loop .at) j) d in
+    let n : length (recordsIn (length j) j) ≡ l .loop .records = omega (arith, l .loop .inv .1 .0, ap length o) in
     rw (le-leb (length j) 65536 (omega arith), l .loop .inv .0, splits-end (length j - l .loop .records) (drop (l .loop .at) j) d, n)
 
 pub split-spec : {M : Type 1} → statement M

@@ -27,8 +27,8 @@ loop-holds : tie.Need-loop-holds Inv-loop μ-loop
 unfolding ascend
 loop-holds c = (refl, omega arith, refl)
 
-take-requires : tie.Need-take-requires Inv-loop μ-loop
-take-requires c κs =
+relax-straight-requires : tie.Need-relax-straight-requires Inv-loop μ-loop
+relax-straight-requires c κs =
     let s = c .before .before .before in
     simp (toZ-ofZ, s .fits .o) ((omega arith, omega arith), s .pre .1)
 
@@ -36,7 +36,7 @@ loop-again : tie.Need-loop-again Inv-loop μ-loop
 unfolding fromThree
 loop-again c =
     let l = c .before .before .before .before in
-    let f = c .before .take in
+    let f = c .before .relax-straight in
     (up-turn _ _ _ (f .ensures) (l .loop .inv .0), omega arith, f .kept .0 ∙ l .loop .inv .2)
 
 returns : tie.Need-returns Inv-loop μ-loop
@@ -57,7 +57,7 @@ from-straight-spec =
     (λ c. search needs)
     (λ c. search needs)
     (λ c. search needs)
-    take-requires
+    relax-straight-requires
     (λ c. search needs)
     (λ c. search needs)
     loop-again

@@ -18,18 +18,18 @@ use Rattle.raster.specs.Loop.{ascend}
 use Rattle.raster.specs.LoopLaws.{up-turn}
 use Rattle.raster.specs.Pixels.{index}
 use Rattle.raster.specs.PixelsLaws.{index-one}
-use Rattle.candidate.specs.declared.Held.{Held}
-use Rattle.candidate.specs.Candidate.{State, state, take, told}
-use Rattle.candidate.specs.Holding.{Seen}
-use Rattle.candidate.proofs.Neighbours.{holds-told, seen-told, seen-stays}
+use Rattle.candidate.specs.declared.SizedVector.{SizedVector}
+use Rattle.candidate.specs.Candidate.{State, state, relaxFlagged, offerFlagged}
+use Rattle.candidate.specs.Holding.{IfThere}
+use Rattle.candidate.proofs.Neighbours.{at-pixel-offer, if-there-offer, if-there-stays}
 use Rattle.scan.specs.Scan.{fromRight, fromThree, fromRow}
 use Rattle.scan.proofs.from_three.Statement.{statement}
 use Rattle.scan.proofs.from_three.Tie as tie
 
 -- ---- one pixel
 
-module _ (w y b : ℕ) (o : ℤ) (rows : y ≢ b) (x : ℕ) (on : x < w) (s : State) {left mid right : Held}
-    (l : Seen (ltb 0 x) o left (s .map) (index w (x - 1) b)) (m : Seen (ltb x w) o mid (s .map) (index w x b)) (r : Seen (ltb (x + 1) w) o right (s .map) (index w (x + 1) b)) where
+module _ (w y b : ℕ) (o : ℤ) (rows : y ≢ b) (x : ℕ) (on : x < w) (s : State) {left mid right : SizedVector}
+    (l : IfThere (ltb 0 x) o left (s .map) (index w (x - 1) b)) (m : IfThere (ltb x w) o mid (s .map) (index w x b)) (r : IfThere (ltb (x + 1) w) o right (s .map) (index w (x + 1) b)) where
   abbrev at : ℕ
   at = index w x y
 
@@ -39,35 +39,35 @@ module _ (w y b : ℕ) (o : ℤ) (rows : y ≢ b) (x : ℕ) (on : x < w) (s : St
 
   -- after one, two and three candidates
   abbrev one : State
-  one = told at (left .dx) (left .dy -ℤ o) (negsuc 0) o s
+  one = offerFlagged at (left .dx) (left .dy -ℤ o) (negsuc 0) o s
 
   abbrev two : State
-  two = told at (mid .dx) (mid .dy -ℤ o) (pos 0) o one
+  two = offerFlagged at (mid .dx) (mid .dy -ℤ o) (pos 0) o one
 
   abbrev all : State
-  all = told at (right .dx) (right .dy -ℤ o) (pos 1) o two
+  all = offerFlagged at (right .dx) (right .dy -ℤ o) (pos 1) o two
 
   -- a pixel of the row before is still what it was
-  stays-one : {t : Bool} {n : Held} (z : ℕ) → (t ≡ true → z < w) → Seen t o n (s .map) (index w z b) → Seen t o n (one .map) (index w z b)
-  stays-one z k e = seen-stays at s e (left .dx) (left .dy -ℤ o) (negsuc 0) o (λ f. elsewhere z (k f))
+  stays-one : {t : Bool} {n : SizedVector} (z : ℕ) → (t ≡ true → z < w) → IfThere t o n (s .map) (index w z b) → IfThere t o n (one .map) (index w z b)
+  stays-one z k e = if-there-stays at s e (left .dx) (left .dy -ℤ o) (negsuc 0) o (λ f. elsewhere z (k f))
 
-  stays-two : {t : Bool} {n : Held} (z : ℕ) → (t ≡ true → z < w) → Seen t o n (s .map) (index w z b) → Seen t o n (two .map) (index w z b)
-  stays-two z k e = seen-stays at one (stays-one z k e) (mid .dx) (mid .dy -ℤ o) (pos 0) o (λ f. elsewhere z (k f))
+  stays-two : {t : Bool} {n : SizedVector} (z : ℕ) → (t ≡ true → z < w) → IfThere t o n (s .map) (index w z b) → IfThere t o n (two .map) (index w z b)
+  stays-two z k e = if-there-stays at one (stays-one z k e) (mid .dx) (mid .dy -ℤ o) (pos 0) o (λ f. elsewhere z (k f))
 
-  stays : {t : Bool} {n : Held} (z : ℕ) → (t ≡ true → z < w) → Seen t o n (s .map) (index w z b) → Seen t o n (all .map) (index w z b)
-  stays z k e = seen-stays at two (stays-two z k e) (right .dx) (right .dy -ℤ o) (pos 1) o (λ f. elsewhere z (k f))
+  stays : {t : Bool} {n : SizedVector} (z : ℕ) → (t ≡ true → z < w) → IfThere t o n (s .map) (index w z b) → IfThere t o n (all .map) (index w z b)
+  stays z k e = if-there-stays at two (stays-two z k e) (right .dx) (right .dy -ℤ o) (pos 1) o (λ f. elsewhere z (k f))
 
   made : all ≡ fromThree w true y b o x s
   unfolding fromThree
   made =
       let h = stays-one x (λ _. on) m .there (lt-ltb x w on) in
-      seen-told at two (stays-two (x + 1) (ltb-true (x + 1) w) r) (pos 1)
+      if-there-offer at two (stays-two (x + 1) (ltb-true (x + 1) w) r) (pos 1)
       ∙ ap (fromRight w true y b o x)
-      (holds-told at (index w x b) (pos 0) o one (h .dx) (h .dy) ∙ ap (take at (index w x b) (pos 0) o) (seen-told at s l (negsuc 0)))
+      (at-pixel-offer at (index w x b) (pos 0) o one (h .dx) (h .dy) ∙ ap (relaxFlagged at (index w x b) (pos 0) o) (if-there-offer at s l (negsuc 0)))
 
   -- the window moves on
   turn : {t : State} → t ≡ all
-      → (t ≡ fromThree w true y b o x s) × Seen (ltb 0 (x + 1)) o mid (t .map) (index w (x + 1 - 1) b) × Seen (ltb (x + 1) w) o right (t .map) (index w (x + 1) b)
+      → (t ≡ fromThree w true y b o x s) × IfThere (ltb 0 (x + 1)) o mid (t .map) (index w (x + 1 - 1) b) × IfThere (ltb (x + 1) w) o right (t .map) (index w (x + 1) b)
   turn e =
       let n : x ≡ x + 1 - 1 = omega arith in
       (e ∙ made, rw (e, lt-ltb 0 (x + 1) (omega arith), ← n, ← lt-ltb x w on) (stays x (λ _. on) m), rw e (stays (x + 1) (ltb-true (x + 1) w) r))
@@ -77,7 +77,7 @@ module _ (w y b : ℕ) (o : ℤ) (rows : y ≢ b) (x : ℕ) (on : x < w) (s : St
 abbrev Inv-loop : tie.InvT-loop
 Inv-loop map₀ w y before o over start met₀ left₀ mid₀ x₀ map met left mid x =
     (state map met ≡ ascend (fromThree w true y before (toZ w32 o)) x (state map₀ over)) × (x ≤ w) × (length map ≡ length map₀)
-    × Seen (ltb 0 x) (toZ w32 o) left map (index w (x - 1) before) × Seen (ltb x w) (toZ w32 o) mid map (index w x before)
+    × IfThere (ltb 0 x) (toZ w32 o) left map (index w (x - 1) before) × IfThere (ltb x w) (toZ w32 o) mid map (index w x before)
 
 abbrev μ-loop : tie.MeasureT-loop
 μ-loop map₀ w y before o over start met₀ left₀ mid₀ x₀ map met left mid x = w - x

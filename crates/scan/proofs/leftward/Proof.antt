@@ -10,20 +10,20 @@ use borrow.Author.Needs.{needs}
 use Rattle.raster.specs.Loop.{descend}
 use Rattle.raster.specs.LoopLaws.{down-turn}
 use Rattle.raster.specs.Pixels.{index}
-use Rattle.candidate.specs.Candidate.{State, state, take}
-use Rattle.candidate.specs.Holding.{Holds}
-use Rattle.candidate.proofs.Neighbours.{holds-told}
+use Rattle.candidate.specs.Candidate.{State, state, relaxFlagged}
+use Rattle.candidate.specs.Holding.{AtPixel}
+use Rattle.candidate.proofs.Neighbours.{at-pixel-offer}
 use Rattle.scan.specs.Scan.{leftward}
 use Rattle.scan.proofs.leftward.Statement.{statement}
 use Rattle.scan.proofs.leftward.Tie as tie
 
 abbrev step : (w y x : ℕ) → State → State
-step w y x = take (index w x y) (index w (x + 1) y) (pos 1) (pos 0)
+step w y x = relaxFlagged (index w x y) (index w (x + 1) y) (pos 1) (pos 0)
 
 abbrev Inv-loop : tie.InvT-loop
 Inv-loop map₀ w y over base x₀ last₀ map x last =
     (descend (step w y) x (state map (last .over)) ≡ descend (step w y) (w - 1) (state map₀ over))
-    × (x ≤ w - 1) × (length map ≡ length map₀) × Holds last map (index w x y)
+    × (x ≤ w - 1) × (length map ≡ length map₀) × AtPixel last map (index w x y)
 
 abbrev μ-loop : tie.MeasureT-loop
 μ-loop map₀ w y over base x₀ last₀ map x last = x
@@ -40,7 +40,7 @@ loop-again c =
     let r = c .before .relax in
     let n : l .x ≡ l .x - 1 + 1 = omega arith in
     let h = rw n at (l .inv .3) in
-    (down-turn _ _ _ (omega arith) (r .ensures .0 ∙ holds-told _ _ _ _ (state (l .map) (l .last .over)) (h .dx) (h .dy)) (l .inv .0), omega arith, r .kept .0 ∙ l .inv .2, r .ensures .1)
+    (down-turn _ _ _ (omega arith) (r .ensures .0 ∙ at-pixel-offer _ _ _ _ (state (l .map) (l .last .over)) (h .dx) (h .dy)) (l .inv .0), omega arith, r .kept .0 ∙ l .inv .2, r .ensures .1)
 
 returns : tie.Need-returns Inv-loop μ-loop
 unfolding leftward descend

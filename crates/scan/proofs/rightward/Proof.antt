@@ -11,20 +11,20 @@ use borrow.Author.Needs.{needs}
 use Rattle.raster.specs.Loop.{ascend}
 use Rattle.raster.specs.LoopLaws.{up-turn}
 use Rattle.raster.specs.Pixels.{index}
-use Rattle.candidate.specs.Candidate.{State, state, take}
-use Rattle.candidate.specs.Holding.{Holds}
-use Rattle.candidate.proofs.Neighbours.{holds-told}
+use Rattle.candidate.specs.Candidate.{State, state, relaxFlagged}
+use Rattle.candidate.specs.Holding.{AtPixel}
+use Rattle.candidate.proofs.Neighbours.{at-pixel-offer}
 use Rattle.scan.specs.Scan.{rightward}
 use Rattle.scan.proofs.rightward.Statement.{statement}
 use Rattle.scan.proofs.rightward.Tie as tie
 
 abbrev step : (w y x : ℕ) → State → State
-step w y x = take (index w (x + 1) y) (index w x y) (negsuc 0) (pos 0)
+step w y x = relaxFlagged (index w (x + 1) y) (index w x y) (negsuc 0) (pos 0)
 
 abbrev Inv-loop : tie.InvT-loop
 Inv-loop map₀ w y over base last₀ x₀ map last x =
     (state map (last .over) ≡ ascend (step w y) x (state map₀ over))
-    × (x ≤ w - 1) × (length map ≡ length map₀) × Holds last map (index w x y)
+    × (x ≤ w - 1) × (length map ≡ length map₀) × AtPixel last map (index w x y)
 
 abbrev μ-loop : tie.MeasureT-loop
 μ-loop map₀ w y over base last₀ x₀ map last x = w - x
@@ -40,7 +40,7 @@ loop-again : tie.Need-loop-again Inv-loop μ-loop
 loop-again c =
     let l = c .before .before .before .before .loop in
     let r = c .before .relax in
-    (up-turn _ _ _ (r .ensures .0 ∙ holds-told _ _ _ _ (state (l .map) (l .last .over)) (l .inv .3 .dx) (l .inv .3 .dy)) (l .inv .0), omega arith, r .kept .0 ∙ l .inv .2, r .ensures .1)
+    (up-turn _ _ _ (r .ensures .0 ∙ at-pixel-offer _ _ _ _ (state (l .map) (l .last .over)) (l .inv .3 .dx) (l .inv .3 .dy)) (l .inv .0), omega arith, r .kept .0 ∙ l .inv .2, r .ensures .1)
 
 returns : tie.Need-returns Inv-loop μ-loop
 unfolding rightward

@@ -9,7 +9,7 @@ returns : tie.Need-returns
 unfolding scanned
 returns c =
     let d = c .before .before .before .before in
-    rw (c .before .scan-up .ensures, d .scan-down .ensures, d .before .before .before .sow .ensures)
+    rw (c .before .scan-up .ensures, d .scan-down .ensures, d .before .before .before .write-seeds .ensures)
 
 pub scan-spec : {M : Type 1} → statement M
 scan-spec =

@@ -9,7 +9,7 @@ use borrow.Author.Tests.{ltb-false, not-false}
 use Rattle.raster.specs.Limits.{maxCount}
 use Rattle.raster.specs.Refusal.{firstOf}
 use Rattle.raster.specs.Tests.{and-right, or-left}
-use Rattle.cutter.specs.Gates.{strays}
+use Rattle.cutter.specs.Gates.{leavesSheet}
 use Rattle.session.specs.State.{active}
 use Rattle.session.specs.Calls.{notMap, ownCutter, runRefusal}
 use Rattle.session.proofs.Granted.{lowered-says}
@@ -59,7 +59,7 @@ leaves-sheet-requires c κs =
 
 -- what the last test says
 off : (c : tie.After-leaves-sheet) → let z = c .before .before in
-    let a = z .before .before .before .before .before .before .before .args in c .leaves-sheet .result ≡ strays (ownCutter (a .s)) (a .d) (a .n)
+    let a = z .before .before .before .before .before .before .before .args in c .leaves-sheet .result ≡ leavesSheet (ownCutter (a .s)) (a .d) (a .n)
 off c = rw (c .before .own-cutter .ensures) at (c .leaves-sheet .ensures)
 
 returns-5 : tie.Need-returns-5

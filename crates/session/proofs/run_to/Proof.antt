@@ -6,7 +6,7 @@ use Rattle.session.proofs.run_to.Statement.{statement}
 use Rattle.session.proofs.run_to.Tie as tie
 
 returns : tie.Need-returns
-returns c = let m = c .before in c .down-at .ensures ∙ rw (m .moved .ensures, m .before .own-cutter .ensures)
+returns c = let m = c .before in c .down-at .ensures ∙ rw (m .cutter-after .ensures, m .before .own-cutter .ensures)
 
 pub run-to-spec : {M : Type 1} → statement M
 run-to-spec =

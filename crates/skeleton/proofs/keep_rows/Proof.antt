@@ -18,17 +18,17 @@ abbrev μ-loop : tie.MeasureT-loop
 abbrev start : tie.At-loop Inv-loop μ-loop → tie.Start Inv-loop μ-loop
 start l = l .before .before .before .before .before .before .before .before .before .before .before
 
-abbrev back : tie.After-turn Inv-loop μ-loop → tie.At-loop Inv-loop μ-loop
+abbrev back : tie.After-row-turn Inv-loop μ-loop → tie.At-loop Inv-loop μ-loop
 back t = t .before .before .before .before .before .before
 
-abbrev back-2 : tie.After-turn2 Inv-loop μ-loop → tie.After-turn Inv-loop μ-loop
+abbrev back-2 : tie.After-row-turn2 Inv-loop μ-loop → tie.After-row-turn Inv-loop μ-loop
 back-2 t = t .before .before .before .before .before .before .before .before .before
 
-abbrev back-3 : tie.After-turn3 Inv-loop μ-loop → tie.After-turn2 Inv-loop μ-loop
+abbrev back-3 : tie.After-row-turn3 Inv-loop μ-loop → tie.After-row-turn2 Inv-loop μ-loop
 back-3 t = t .before .before .before .before .before .before .before .before .before
 
 -- the loop goes on
-more : (t : tie.After-turn Inv-loop μ-loop) → back t .loop .y < start (back t) .args .h
+more : (t : tie.After-row-turn Inv-loop μ-loop) → back t .loop .y < start (back t) .args .h
 more t = t .before .before .before .before .before .loop-test .taken
 
 loop-holds : tie.Need-loop-holds Inv-loop μ-loop
@@ -37,32 +37,32 @@ loop-holds c =
     let p = f .before .before .before .before .before .before .before .before .pre in
     turn-none (p .0 .1 .1 .1) (p .1 .1 .0) (f .fill-band .ensures) (p .1 .1 .1 .1)
 
-turn-requires : tie.Need-turn-requires Inv-loop μ-loop
+turn-requires : tie.Need-row-turn-requires Inv-loop μ-loop
 turn-requires c κs =
     let l = c .before .before .before .before .before in
     let p = start l .pre in
     ((p .0 .0, p .0 .1 .1 .0), (p .1 .0, l .loop .inv))
 
-turn-requires-2 : tie.Need-turn-requires-2 Inv-loop μ-loop
+turn-requires-2 : tie.Need-row-turn-requires-2 Inv-loop μ-loop
 turn-requires-2 c κs =
     let t = c .before .before .before .before .before .before .before .before in
     let p = start (back t) .pre in
-    ((p .0 .0, p .0 .1 .1 .0), (p .1 .0, t .turn .ensures))
+    ((p .0 .0, p .0 .1 .1 .0), (p .1 .0, t .row-turn .ensures))
 
-turn-requires-3 : tie.Need-turn-requires-3 Inv-loop μ-loop
+turn-requires-3 : tie.Need-row-turn-requires-3 Inv-loop μ-loop
 turn-requires-3 c κs =
     let u = c .before .before .before .before .before .before .before .before in
     let l = back (back-2 u) in
     let p = start l .pre in
     let e : l .loop .y + 1 + 1 ≡ l .loop .y + 2 = omega arith in
-    ((p .0 .0, p .0 .1 .1 .0), (p .1 .0, rw e at (u .turn2 .ensures)))
+    ((p .0 .0, p .0 .1 .1 .0), (p .1 .0, rw e at (u .row-turn2 .ensures)))
 
 loop-again : tie.Need-loop-again Inv-loop μ-loop
 loop-again c =
     let v = c .before .before .before .before in
     let l = back (back-2 (back-3 v)) .loop in
     let e : l .y + 2 + 1 ≡ l .y + 3 = omega arith in
-    rw e at (v .turn3 .ensures)
+    rw e at (v .row-turn3 .ensures)
 
 pub keep-rows-spec : {M : Type 1} → statement M
 keep-rows-spec =

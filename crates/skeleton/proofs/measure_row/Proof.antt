@@ -4,13 +4,13 @@ use mathlib.Core.Path.{_≡_, _∙_}
 use Prim.Native.Nat.{_-_, _≤_}
 use native.Mathlib.Omega.{arith}
 use lib.ListN.{length-set}
-use Rattle.skeleton.specs.Bands.{Measured}
+use Rattle.skeleton.specs.Bands.{BandFilled}
 use Rattle.skeleton.proofs.Bands.{listed-at, measured-none, measured-more}
 use Rattle.skeleton.proofs.measure_row.Statement.{statement}
 use Rattle.skeleton.proofs.measure_row.Tie as tie
 
 abbrev Inv-loop : tie.InvT-loop
-Inv-loop map base w g4 g8 band₀ x₀ band x = Measured map base w x band × (x ≤ w)
+Inv-loop map base w g4 g8 band₀ x₀ band x = BandFilled map base w x band × (x ≤ w)
 
 abbrev μ-loop : tie.MeasureT-loop
 μ-loop map base w g4 g8 band₀ x₀ band x = w - x

@@ -1,12 +1,12 @@
--- `skeleton::turn` meets its contract: its bands tell of each pixel of the row whether it is kept (`turn-more`); past the last row there is nothing to do.
+-- `skeleton::row_turn` meets its contract: its bands tell of each pixel of the row whether it is kept (`turn-more`); past the last row there is nothing to do.
 -- Assumes nothing.
 use Prim.Native.Nat.{_+_, _*_, _≤_, _<_}
 use native.Mathlib.Nat.{mul-le-mul-right}
 use native.Mathlib.Omega.{arith}
 use borrow.Author.Needs.{needs}
 use Rattle.skeleton.proofs.Turning.{turn-more, turn-past}
-use Rattle.skeleton.proofs.turn.Statement.{statement}
-use Rattle.skeleton.proofs.turn.Tie as tie
+use Rattle.skeleton.proofs.row_turn.Statement.{statement}
+use Rattle.skeleton.proofs.row_turn.Tie as tie
 
 -- the row lies on the sheet
 on-sheet : (c : tie.Start) → c .args .y < c .args .h → c .args .y * c .args .w + c .args .w ≤ c .args .h * c .args .w
@@ -34,8 +34,8 @@ returns-2 c =
     let f = k .before .before .before .before .before in
     turn-more (start f .pre .1 .1) (omega arith) (f .fill-band .ensures) (k .keep-row .ensures)
 
-pub turn-spec : {M : Type 1} → statement M
-turn-spec =
+pub row-turn-spec : {M : Type 1} → statement M
+row-turn-spec =
     tie.close
     (tie.spec
     returns

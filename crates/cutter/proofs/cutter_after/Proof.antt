@@ -1,12 +1,12 @@
--- `cutter::moved` meets its contract: the cutter stands at the pixel after the last step, which 16 bits hold.
+-- `cutter::cutter_after` meets its contract: the cutter stands at the pixel after the last step, which 16 bits hold.
 -- Assumes nothing.
 use mathlib.Core.Path.{_≡_}
 use native.Mathlib.Omega.{arith}
 use borrow.Author.Needs.{needs}
 use Rattle.cutter.specs.Directions.{columnAfter, rowAfter}
 use Rattle.cutter.proofs.Signs.{stepped}
-use Rattle.cutter.proofs.moved.Statement.{statement}
-use Rattle.cutter.proofs.moved.Tie as tie
+use Rattle.cutter.proofs.cutter_after.Statement.{statement}
+use Rattle.cutter.proofs.cutter_after.Tie as tie
 
 column-is : (c : tie.After-place-after) → let a = c .before .before .args in c .place-after .result ≡ columnAfter (a .d) (a .n) (a .c .x)
 column-is c = stepped _ _ (c .before .step-right .ok) (c .before .step-right .ensures) (c .place-after .ensures)
@@ -17,8 +17,8 @@ row-is c = stepped _ _ (c .before .step-down .ok) (c .before .step-down .ensures
 returns : tie.Need-returns
 returns c = rw (column-is (c .before .before), row-is c)
 
-pub moved-spec : {M : Type 1} → statement M
-moved-spec =
+pub cutter-after-spec : {M : Type 1} → statement M
+cutter-after-spec =
     tie.close
     (tie.spec
     (λ c κs. search needs)

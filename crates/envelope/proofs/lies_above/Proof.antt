@@ -1,16 +1,16 @@
--- `envelope::covers` meets its contract: the test on the products is `over` by definition.
+-- `envelope::lies_above` meets its contract: the test on the products is `aboveChord` by definition.
 -- Assumes nothing.
 use borrow.Author.Needs.{needs}
-use Rattle.envelope.specs.Hull.{over}
-use Rattle.envelope.proofs.covers.Statement.{statement}
-use Rattle.envelope.proofs.covers.Tie as tie
+use Rattle.envelope.specs.Hull.{aboveChord}
+use Rattle.envelope.proofs.lies_above.Statement.{statement}
+use Rattle.envelope.proofs.lies_above.Tie as tie
 
 returns : tie.Need-returns
-unfolding over
+unfolding aboveChord
 returns c = cc
 
-pub covers-spec : {M : Type 1} → statement M
-covers-spec =
+pub lies-above-spec : {M : Type 1} → statement M
+lies-above-spec =
     tie.close
     (tie.spec
     (λ c κs. search needs)

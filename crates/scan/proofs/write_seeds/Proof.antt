@@ -1,4 +1,4 @@
--- `scan::sow` meets its contract. The invariant: the first p pixels have their seeds, the rest of the map is as it was.
+-- `scan::write_seeds` meets its contract. The invariant: the first p pixels have their seeds, the rest of the map is as it was.
 -- Assumes nothing.
 use mathlib.Core.Path.{_≡_, refl, _∙_}
 use Prim.Native.Nat.{_-_, _≤_}
@@ -10,8 +10,8 @@ use mir.Val.{SFits}
 use mir.ValLaws.{toZ-ofZ}
 use borrow.Author.Needs.{needs}
 use Rattle.scan.proofs.Sowing.{sown, sown-none, sown-more, sown-all}
-use Rattle.scan.proofs.sow.Statement.{statement}
-use Rattle.scan.proofs.sow.Tie as tie
+use Rattle.scan.proofs.write_seeds.Statement.{statement}
+use Rattle.scan.proofs.write_seeds.Tie as tie
 
 abbrev Inv-loop : tie.InvT-loop
 Inv-loop sheet map₀ p₀ p-end map p = (map ≡ sown p sheet map₀) × (p ≤ length sheet) × (length map ≡ length map₀)
@@ -47,8 +47,8 @@ returns c =
     let n : l .loop .p ≡ length (s .args .sheet .now) = omega arith in
     l .loop .inv .0 ∙ (rw n (sown-all (s .args .sheet .now) (s .args .map .now) (s .pre)))
 
-pub sow-spec : {M : Type 1} → statement M
-sow-spec =
+pub write-seeds-spec : {M : Type 1} → statement M
+write-seeds-spec =
     tie.close
     (tie.spec
     Inv-loop
