@@ -8,7 +8,7 @@
 mod picture;
 
 use abi::session::{Reply, Session};
-use jobs::Record;
+use job::Record;
 
 /// The most pixels of a sheet, as in `mill`.
 const PIXELS: usize = 8_192;
@@ -78,7 +78,7 @@ impl Mill {
         let before = self.session;
         let Reply { answer, session } = self.call(record);
         self.session = session;
-        let line = jobs::text(std::slice::from_ref(record));
+        let line = job::text(std::slice::from_ref(record));
         let words = format!("{number}: {} gives {answer}", line.trim_end());
         match (record.kind(), answer) {
             (4, 0) => self.add(words, true),

@@ -8,7 +8,7 @@ fn main() -> ExitCode {
     let drawn = io::stdin()
         .read_to_end(&mut job)
         .map_err(|error| error.to_string())
-        .and_then(|_| jobs::unpack(&job).map_err(|bad| bad.to_string()))
+        .and_then(|_| job::unpack(&job).map_err(|bad| bad.to_string()))
         .and_then(|records| io::stdout().write_all(draw::picture(&records).as_bytes()).map_err(|error| error.to_string()));
     match drawn {
         Ok(()) => ExitCode::SUCCESS,

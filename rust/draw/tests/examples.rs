@@ -5,7 +5,7 @@ use std::path::Path;
 
 fn drawn(name: &str) -> (String, String) {
     let folder = Path::new(env!("CARGO_MANIFEST_DIR")).join("../../examples");
-    let records = jobs::unpack(&fs::read(folder.join(format!("{name}.job"))).unwrap()).unwrap();
+    let records = job::unpack(&fs::read(folder.join(format!("{name}.job"))).unwrap()).unwrap();
     (draw::picture(&records), fs::read_to_string(folder.join(format!("{name}.svg"))).unwrap())
 }
 
@@ -29,7 +29,7 @@ fn arrow_head() {
 /// What is refused before there is a sheet stands in words.
 #[test]
 fn refused_early() {
-    let records = jobs::parse("lift\nbuild 1\nopen 91 91\n").unwrap();
+    let records = job::parse("lift\nbuild 1\nopen 91 91\n").unwrap();
     let picture = draw::picture(&records);
     assert!(picture.contains(">2: build 1 gives 30<") && picture.contains(">3: open 91 91 gives 12<"));
 }

@@ -49,7 +49,7 @@ pub fn random(random: &mut Random) -> Vec<u8> {
         text += &line;
         text += "\n";
     }
-    let mut job = jobs::pack(&jobs::parse(&text).expect("the text is a job's"));
+    let mut job = job::pack(&job::parse(&text).expect("the text is a job's"));
     match random.below(8) {
         0 => job.truncate(random.between(0, job.len())),
         1 if !job.is_empty() => {

@@ -16,9 +16,9 @@ fn packed() {
     let texts = examples("txt");
     assert!(texts.len() >= 3);
     for text in texts {
-        let records = jobs::parse(&fs::read_to_string(&text).unwrap()).unwrap_or_else(|bad| panic!("{}: {bad}", text.display()));
+        let records = job::parse(&fs::read_to_string(&text).unwrap()).unwrap_or_else(|bad| panic!("{}: {bad}", text.display()));
         let job = fs::read(text.with_extension("job")).unwrap();
-        assert!(jobs::pack(&records) == job, "{} is not the job of its text", text.display());
+        assert!(job::pack(&records) == job, "{} is not the job of its text", text.display());
     }
 }
 
@@ -26,6 +26,6 @@ fn packed() {
 fn damaged() {
     let without_text: Vec<PathBuf> = examples("job").into_iter().filter(|job| !job.with_extension("txt").exists()).collect();
     assert_eq!(without_text.len(), 1);
-    let bad = jobs::unpack(&fs::read(&without_text[0]).unwrap()).unwrap_err();
+    let bad = job::unpack(&fs::read(&without_text[0]).unwrap()).unwrap_err();
     assert_eq!(bad.to_string(), "record 2 at byte 8: `paint` has 12 bytes and not 14");
 }

@@ -29,9 +29,9 @@ fn read() -> Result<Vec<u8>, String> {
 
 fn pack(bytes: &[u8]) -> Result<Vec<u8>, String> {
     let text = std::str::from_utf8(bytes).map_err(|error| format!("the text is no UTF-8: {error}"))?;
-    Ok(jobs::pack(&jobs::parse(text).map_err(|bad| bad.to_string())?))
+    Ok(job::pack(&job::parse(text).map_err(|bad| bad.to_string())?))
 }
 
 fn unpack(bytes: &[u8]) -> Result<Vec<u8>, String> {
-    Ok(jobs::text(&jobs::unpack(bytes).map_err(|bad| bad.to_string())?).into_bytes())
+    Ok(job::text(&job::unpack(bytes).map_err(|bad| bad.to_string())?).into_bytes())
 }

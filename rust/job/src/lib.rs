@@ -4,12 +4,12 @@
 //! What follows `#` is a comment, and empty lines count for nothing.
 //!
 //! ```
-//! let records = jobs::parse("open 4 4   # a small board\npaint 3 0 1 1\nrun south-west 2\n").unwrap();
-//! assert_eq!(jobs::pack(&records)[..8], [8, 0, 1, 0, 4, 0, 4, 0]);
-//! assert_eq!(jobs::text(&records), "open 4 4\npaint 3 0 1 1\nrun south-west 2\n");
-//! assert_eq!(jobs::unpack(&jobs::pack(&records)), Ok(records));
+//! let records = job::parse("open 4 4   # a small board\npaint 3 0 1 1\nrun south-west 2\n").unwrap();
+//! assert_eq!(job::pack(&records)[..8], [8, 0, 1, 0, 4, 0, 4, 0]);
+//! assert_eq!(job::text(&records), "open 4 4\npaint 3 0 1 1\nrun south-west 2\n");
+//! assert_eq!(job::unpack(&job::pack(&records)), Ok(records));
 //!
-//! assert_eq!(jobs::parse("lift\nplace 1 2\n").unwrap_err().to_string(), "line 2: `place` takes x y q, 3 numbers and not 2");
+//! assert_eq!(job::parse("lift\nplace 1 2\n").unwrap_err().to_string(), "line 2: `place` takes x y q, 3 numbers and not 2");
 //! ```
 
 use std::fmt;
