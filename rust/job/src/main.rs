@@ -1,30 +1,31 @@
-//! `job pack` turns a job's text into the bytes that `mill` reads, `job unpack` turns bytes into text. Both read standard input and write
-//! standard output; a bad line or record is named on standard error.
+//! `job pack` turns a job's text into the bytes that `mill` reads, `job unpack` turns bytes into text. Both read a file or standard input
+//! and write standard output; bad lines and a bad record are named on standard error.
 
-use std::io::{self, Read, Write};
+use cli::Stop;
+use std::ffi::OsString;
 use std::process::ExitCode;
 
+const USE: &str = "\
+use: job pack [FILE] > JOB       a job's text to the bytes that mill reads
+     job unpack [FILE] > TEXT    the bytes back to text
+     job -h | --help             these lines
+Without FILE standard input is read.
+";
+
 fn main() -> ExitCode {
-    let words: Vec<String> = std::env::args().skip(1).collect();
-    let turned = match words.iter().map(String::as_str).collect::<Vec<_>>()[..] {
-        ["pack"] => read().and_then(|bytes| pack(&bytes)),
-        ["unpack"] => read().and_then(|bytes| unpack(&bytes)),
-        _ => Err("use: job pack < TEXT > JOB, or job unpack < JOB > TEXT".into()),
-    };
-    let written = turned.and_then(|bytes| io::stdout().write_all(&bytes).map_err(|error| error.to_string()));
-    match written {
-        Ok(()) => ExitCode::SUCCESS,
-        Err(reason) => {
-            eprintln!("{reason}");
-            ExitCode::FAILURE
-        }
-    }
+    cli::run(USE, turn)
 }
 
-fn read() -> Result<Vec<u8>, String> {
-    let mut bytes = Vec::new();
-    io::stdin().read_to_end(&mut bytes).map_err(|error| error.to_string())?;
-    Ok(bytes)
+/// What the words ask for: the bytes of a text, or the text of bytes.
+fn turn(words: &[OsString]) -> Result<Vec<u8>, Stop> {
+    let Some((way, file)) = words.split_first() else {
+        return Err(Stop::Refused("`pack` or `unpack` is missing".into()));
+    };
+    match way.to_str() {
+        Some("pack") => pack(&cli::input(file)?).map_err(Stop::Failed),
+        Some("unpack") => unpack(&cli::input(file)?).map_err(Stop::Failed),
+        _ => Err(cli::unknown(way)),
+    }
 }
 
 fn pack(bytes: &[u8]) -> Result<Vec<u8>, String> {
