@@ -11,6 +11,8 @@
 //! }
 //! ```
 
+pub mod trial;
+
 use std::ffi::{OsStr, OsString};
 use std::fs;
 use std::io::{self, Read, Write};
