@@ -53,8 +53,8 @@ struct Mill {
     early: Vec<String>,
 }
 
-/// The picture of a job's records.
-pub fn picture(records: &[Record]) -> String {
+/// The picture of a job's records; none if they touch no sheet and nothing is refused, so that there is nothing to show.
+pub fn picture(records: &[Record]) -> Option<String> {
     let (sheet, map, scratch) = (vec![0; PIXELS], vec![0; 2 * PIXELS], vec![0; PIXELS]);
     let (boards, early) = (Vec::new(), Vec::new());
     let mut mill = Mill { session: Session::fresh(), sheet, map, scratch, boards, changed: false, early };
@@ -64,7 +64,7 @@ pub fn picture(records: &[Record]) -> String {
     if mill.changed || !mill.early.is_empty() {
         mill.add("the sheet at the end".into(), false);
     }
-    picture::svg(&mill.boards)
+    (!mill.boards.is_empty()).then(|| picture::svg(&mill.boards))
 }
 
 impl Mill {

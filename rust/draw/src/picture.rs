@@ -11,6 +11,7 @@ const COPPER: &str = "#b8672a";
 const DONE: &str = "#12803c";
 const REFUSED: &str = "#c4161c";
 
+/// The picture of all boards.
 pub fn svg(boards: &[Board]) -> String {
     let width = boards.iter().map(|board| board.w * CELL).max().unwrap_or(0).max(420) + 2 * SPACE;
     let height: usize = boards.iter().map(tall).sum::<usize>() + SPACE;

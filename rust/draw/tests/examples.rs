@@ -6,7 +6,7 @@ use std::path::Path;
 fn drawn(name: &str) -> (String, String) {
     let folder = Path::new(env!("CARGO_MANIFEST_DIR")).join("../../examples");
     let records = job::unpack(&fs::read(folder.join(format!("{name}.job"))).unwrap()).unwrap();
-    (draw::picture(&records), fs::read_to_string(folder.join(format!("{name}.svg"))).unwrap())
+    (draw::picture(&records).unwrap(), fs::read_to_string(folder.join(format!("{name}.svg"))).unwrap())
 }
 
 #[test]
@@ -30,6 +30,13 @@ fn arrow_head() {
 #[test]
 fn refused_early() {
     let records = job::parse("lift\nbuild 1\nopen 91 91\n").unwrap();
-    let picture = draw::picture(&records);
+    let picture = draw::picture(&records).unwrap();
     assert!(picture.contains(">2: build 1 gives 30<") && picture.contains(">3: open 91 91 gives 12<"));
+}
+
+/// There is no picture of nothing.
+#[test]
+fn nothing() {
+    assert_eq!(draw::picture(&[]), None);
+    assert_eq!(draw::picture(&job::parse("lift\nlift\n").unwrap()), None);
 }
