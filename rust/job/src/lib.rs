@@ -1,15 +1,16 @@
 //! Job files: the records as values, as bytes (document 01, "Job file") and as text that can be read and written by hand.
 //!
-//! A line of text is a record: its name and its numbers in the order of the file's fields. A direction may be named, as in `run east 3`.
-//! What follows `#` is a comment, and empty lines count for nothing.
+//! A line of text is a record: its name and its numbers in the order of the file's fields. Directions and engines may be named, as in
+//! `run east 3` and `build exact`. What follows `#` is a comment, and empty lines count for nothing.
 //!
 //! ```
-//! let records = job::parse("open 4 4   # a small board\npaint 3 0 1 1\nrun south-west 2\n").unwrap();
+//! let records = job::parse("open 4 4   # a small board\npaint 3 0 1 1\nbuild 4SED\nrun south-west 2\n").unwrap();
 //! assert_eq!(job::pack(&records)[..8], [8, 0, 1, 0, 4, 0, 4, 0]);
-//! assert_eq!(job::text(&records), "open 4 4\npaint 3 0 1 1\nrun south-west 2\n");
+//! assert_eq!(job::text(&records), "open 4 4\npaint 3 0 1 1\nbuild 3\nrun south-west 2\n");
 //! assert_eq!(job::unpack(&job::pack(&records)), Ok(records));
 //!
-//! assert_eq!(job::parse("lift\nplace 1 2\n").unwrap_err().to_string(), "line 2: `place` takes x y q, 3 numbers and not 2");
+//! let bad = job::parse("lift 3\nlift\nplace 1 2\n").unwrap_err();
+//! assert_eq!(bad.to_string(), "line 1: `lift` takes nothing and not 1\nline 3: `place` takes x y q, 3 numbers and not 2");
 //! ```
 
 use std::fmt;
@@ -32,6 +33,9 @@ const KINDS: [Kind; 9] = [
 
 /// The directions, clockwise from east.
 const DIRECTIONS: [&str; 8] = ["east", "south-east", "south", "south-west", "west", "north-west", "north", "north-east"];
+
+/// The engines, from number 1 on.
+const ENGINES: [&str; 3] = ["exact", "8sed", "4sed"];
 
 #[derive(Debug, PartialEq, Eq)]
 struct Kind {
@@ -66,10 +70,28 @@ impl Record {
     }
 }
 
-/// Why a text is no job: the line, from 1, and the reason.
+/// Why a text is no job: all its bad lines, in their order.
+#[derive(Debug, PartialEq, Eq)]
+pub struct BadText {
+    /// The bad lines, one at least.
+    pub lines: Vec<BadLine>,
+}
+
+impl fmt::Display for BadText {
+    fn fmt(&self, f: &mut fmt::Formatter<'_>) -> fmt::Result {
+        let lines: Vec<String> = self.lines.iter().map(BadLine::to_string).collect();
+        f.write_str(&lines.join("\n"))
+    }
+}
+
+impl std::error::Error for BadText {}
+
+/// A line that is no record of a job.
 #[derive(Debug, PartialEq, Eq)]
 pub struct BadLine {
+    /// The number of the line, from 1.
     pub line: usize,
+    /// What is wrong with it.
     pub reason: String,
 }
 
@@ -79,13 +101,14 @@ impl fmt::Display for BadLine {
     }
 }
 
-impl std::error::Error for BadLine {}
-
-/// Why bytes are no job: the record, from 1, the place of its first byte, and the reason.
+/// Why bytes are no job: the first bad record.
 #[derive(Debug, PartialEq, Eq)]
 pub struct BadBytes {
+    /// The number of the record, from 1.
     pub record: usize,
+    /// The place of its first byte, from 0.
     pub at: usize,
+    /// What is wrong with it.
     pub reason: String,
 }
 
@@ -97,22 +120,30 @@ impl fmt::Display for BadBytes {
 
 impl std::error::Error for BadBytes {}
 
-/// The records of a text.
-pub fn parse(text: &str) -> Result<Vec<Record>, BadLine> {
-    let mut records = Vec::new();
-    let mut bytes = 0;
-    for (at, line) in text.lines().enumerate() {
+/// The records of a text. A byte order mark at its start is skipped.
+pub fn parse(text: &str) -> Result<Vec<Record>, BadText> {
+    let (mut records, mut lines, mut length) = (Vec::new(), Vec::new(), 0);
+    for (at, line) in text.strip_prefix('\u{feff}').unwrap_or(text).lines().enumerate() {
+        let mut bad = |reason| lines.push(BadLine { line: at + 1, reason });
         let words: Vec<&str> = line.split('#').next().unwrap_or("").split_whitespace().collect();
         let Some((name, numbers)) = words.split_first() else { continue };
-        let bad = |reason| BadLine { line: at + 1, reason };
-        let record = record(name, numbers).map_err(bad)?;
-        bytes += record.kind.length();
-        if bytes > LONGEST {
-            return Err(bad(format!("the job is longer than {LONGEST} bytes here")));
+        match record(name, numbers) {
+            Ok(record) => {
+                let fitted = length <= LONGEST;
+                length += record.kind.length();
+                if fitted && length > LONGEST {
+                    bad(format!("the job is longer than {LONGEST} bytes here"));
+                }
+                records.push(record);
+            }
+            Err(reason) => bad(reason),
         }
-        records.push(record);
     }
-    Ok(records)
+    if lines.is_empty() {
+        Ok(records)
+    } else {
+        Err(BadText { lines })
+    }
 }
 
 /// The record that a line's words say.
@@ -122,23 +153,42 @@ fn record(name: &str, words: &[&str]) -> Result<Record, String> {
         format!("`{name}` is none of {}", names.join(", "))
     })?;
     if words.len() != kind.fields.len() {
-        let fields: Vec<&str> = kind.fields.iter().map(|(field, _)| *field).collect();
-        let takes = if fields.is_empty() { "nothing".into() } else { format!("{}, {} numbers", fields.join(" "), fields.len()) };
-        return Err(format!("`{name}` takes {takes} and not {}", words.len()));
+        return Err(format!("`{name}` takes {} and not {}", takes(kind), words.len()));
     }
     let numbers = kind.fields.iter().zip(words).map(|(&field, word)| number(field, word)).collect::<Result<_, _>>()?;
     Ok(Record { kind, numbers })
 }
 
+/// What a kind takes, in words.
+fn takes(kind: &Kind) -> String {
+    let fields: Vec<&str> = kind.fields.iter().map(|(field, _)| *field).collect();
+    match fields.len() {
+        0 => "nothing".into(),
+        1 => format!("{}, 1 number", fields[0]),
+        count => format!("{}, {count} numbers", fields.join(" ")),
+    }
+}
+
 /// The number that a word says in a field.
 fn number((field, bytes): (&str, usize), word: &str) -> Result<u32, String> {
-    if field == "direction" {
-        if let Some(direction) = DIRECTIONS.iter().position(|name| *name == word) {
-            return Ok(direction as u32);
-        }
+    let (names, first) = names(field);
+    if let Some(at) = names.iter().position(|name| name.eq_ignore_ascii_case(word)) {
+        return Ok(first + at as u32);
     }
     let most = if bytes == 2 { u32::from(u16::MAX) } else { u32::MAX };
-    word.parse().ok().filter(|&number| number <= most).ok_or_else(|| format!("`{word}` is no {field}, a number from 0 to {most}"))
+    word.parse().ok().filter(|&number| number <= most).ok_or_else(|| {
+        let names = if names.is_empty() { String::new() } else { format!("one of {} or ", names.join(", ")) };
+        format!("`{word}` is no {field}, {names}a number from 0 to {most}")
+    })
+}
+
+/// The names that numbers have in a field, and the number that the first of them stands for.
+fn names(field: &str) -> (&'static [&'static str], u32) {
+    match field {
+        "direction" => (&DIRECTIONS, 0),
+        "engine" => (&ENGINES, 1),
+        _ => (&[], 0),
+    }
 }
 
 /// The text of records, a line each.
@@ -247,9 +297,41 @@ mod tests {
         assert_eq!(bad("open 4 -4"), "line 1: `-4` is no h, a number from 0 to 65535");
         assert_eq!(bad("open 65536 4"), "line 1: `65536` is no w, a number from 0 to 65535");
         assert_eq!(bad("expand 4294967296"), "line 1: `4294967296` is no q, a number from 0 to 4294967295");
-        assert_eq!(bad("run up 4"), "line 1: `up` is no direction, a number from 0 to 65535");
+        assert_eq!(bad("build"), "line 1: `build` takes engine, 1 number and not 0");
+        assert_eq!(
+            bad("run up 3"),
+            "line 1: `up` is no direction, one of east, south-east, south, south-west, west, north-west, north, north-east \
+             or a number from 0 to 65535"
+        );
+        assert_eq!(bad("build 6sed"), "line 1: `6sed` is no engine, one of exact, 8sed, 4sed or a number from 0 to 65535");
         assert_eq!(bad(&"lift\n".repeat(16_385)), "line 16385: the job is longer than 65536 bytes here");
         assert_eq!(parse(&"lift\n".repeat(16_384)).unwrap().len(), 16_384);
+    }
+
+    #[test]
+    fn all_bad_lines() {
+        let lines = |text: &str| parse(text).unwrap_err().lines.iter().map(|bad| bad.line).collect::<Vec<_>>();
+        assert_eq!(lines("saw\nlift\nopen 4\n\nlift 1\nbuild 1\nrun up 3"), [1, 3, 5, 7]);
+        assert_eq!(
+            parse("lift 1\nlift\nopen 4 x").unwrap_err().to_string(),
+            "line 1: `lift` takes nothing and not 1\nline 3: `x` is no h, a number from 0 to 65535"
+        );
+        // a job that is too long is named once, where it becomes so
+        assert_eq!(lines(&("saw\n".to_string() + &"lift\n".repeat(16_387) + "saw\n")), [1, 16_386, 16_389]);
+    }
+
+    #[test]
+    fn byte_order_mark() {
+        assert_eq!(parse("\u{feff}lift\n"), parse("lift\n"));
+        assert_eq!(parse("\u{feff}"), Ok(Vec::new()));
+        assert!(parse("lift\n\u{feff}lift\n").is_err());
+    }
+
+    #[test]
+    fn names_of_numbers() {
+        let engines = "build exact\nbuild 8sed\nbuild 4sed\nbuild EXACT\nbuild 8SED\nbuild 4Sed\n";
+        assert_eq!(parse(engines), parse("build 1\nbuild 2\nbuild 3\nbuild 1\nbuild 2\nbuild 3\n"));
+        assert_eq!(parse("run north-east 1\nrun East 1\n"), parse("run 7 1\nrun 0 1\n"));
     }
 
     #[test]

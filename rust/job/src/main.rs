@@ -29,8 +29,15 @@ fn turn(words: &[OsString]) -> Result<Vec<u8>, Stop> {
 }
 
 fn pack(bytes: &[u8]) -> Result<Vec<u8>, String> {
-    let text = std::str::from_utf8(bytes).map_err(|error| format!("the text is no UTF-8: {error}"))?;
-    Ok(job::pack(&job::parse(text).map_err(|bad| bad.to_string())?))
+    Ok(job::pack(&job::parse(text(bytes)?).map_err(|bad| bad.to_string())?))
+}
+
+/// Bytes as text, or the line that is none.
+fn text(bytes: &[u8]) -> Result<&str, String> {
+    std::str::from_utf8(bytes).map_err(|error| {
+        let before = bytes[..error.valid_up_to()].iter().filter(|byte| **byte == b'\n').count();
+        format!("line {}: this is no UTF-8", before + 1)
+    })
 }
 
 fn unpack(bytes: &[u8]) -> Result<Vec<u8>, String> {

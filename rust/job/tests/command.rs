@@ -45,8 +45,18 @@ fn refused_words() {
 #[test]
 fn failures() {
     assert_stops(&mut job(&["pack", "no/such/file"]), 1, "`no/such/file` cannot be read: ");
-    assert_stops(&mut job(&["pack", BYTES]), 1, "line 1: ");
     assert_stops(&mut job(&["unpack", TEXT]), 1, "record 1 at byte 0: ");
+}
+
+/// Every bad line is named, and so is one that is no text.
+#[test]
+fn bad_lines() {
+    let file = concat!(env!("CARGO_TARGET_TMPDIR"), "/bad_lines.txt");
+    fs::write(file, "lift 1\nlift\nopen 4\n").unwrap();
+    let reasons = "line 1: `lift` takes nothing and not 1\nline 3: `open` takes w h, 2 numbers and not 1\n";
+    assert_stops(&mut job(&["pack", file]), 1, reasons);
+    fs::write(file, b"lift\n# gr\xfc\xdf\n").unwrap();
+    assert_stops(&mut job(&["pack", file]), 1, "line 2: this is no UTF-8\n");
 }
 
 /// On a full disk nothing is lost in silence.
