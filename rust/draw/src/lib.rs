@@ -18,29 +18,38 @@ const STEPS: [(i32, i32); 8] = [(1, 0), (1, 1), (0, 1), (-1, 1), (-1, 0), (-1, -
 
 /// A sheet with what was done on it.
 pub(crate) struct Board {
+    /// The record that started it, with its answer.
     title: String,
+    /// The sheet's sides.
     w: usize,
     h: usize,
+    /// A byte a pixel, 0 for bare.
     sheet: Vec<u8>,
     /// The map, if one was built, and its skeleton, if it has one.
     map: Option<Vec<i16>>,
     kept: Option<Vec<u8>>,
+    /// The places and runs on it.
     tools: Vec<Tool>,
+    /// What was refused otherwise than by the gate.
     notes: Vec<String>,
 }
 
 /// A place or a run that the gates looked at.
 pub(crate) struct Tool {
+    /// The number of its record.
     record: usize,
+    /// The pixel of a place, or the one where a run starts.
     from: (i32, i32),
     /// The way from there; 0 steps for a place.
     step: (i32, i32),
     count: i32,
+    /// The squared radius of the cutter.
     q: u32,
     /// The first pixel that failed.
     failed: Option<(i32, i32)>,
 }
 
+/// A job on its way: the session with the slices that it is lent, and the boards so far.
 struct Mill {
     session: Session,
     sheet: Vec<u8>,

@@ -7,12 +7,13 @@ use std::fmt::Write;
 const CELL: usize = 14;
 const SPACE: usize = 28;
 
+/// The colours of copper, and of a place or run that was done or refused.
 const COPPER: &str = "#b8672a";
 const DONE: &str = "#12803c";
 const REFUSED: &str = "#c4161c";
 
 /// The picture of all boards.
-pub fn svg(boards: &[Board]) -> String {
+pub(crate) fn svg(boards: &[Board]) -> String {
     let width = boards.iter().map(|board| board.w * CELL).max().unwrap_or(0).max(420) + 2 * SPACE;
     let height: usize = boards.iter().map(tall).sum::<usize>() + SPACE;
     let mut out = String::from("<svg xmlns=\"http://www.w3.org/2000/svg\" font-family=\"sans-serif\" font-size=\"12\"");
@@ -33,6 +34,7 @@ fn tall(board: &Board) -> usize {
     board.h * CELL + 18 * board.notes.len() + 2 * SPACE
 }
 
+/// A board with its title and notes, from `top` down.
 fn draw(out: &mut String, board: &Board, top: usize) -> std::fmt::Result {
     writeln!(out, "<text x=\"{SPACE}\" y=\"{}\">{}, {} × {}</text>", top - 8, board.title, board.w, board.h)?;
     writeln!(out, "<g transform=\"translate({SPACE} {top})\">")?;
@@ -49,6 +51,7 @@ fn draw(out: &mut String, board: &Board, top: usize) -> std::fmt::Result {
     writeln!(out, "</g>")
 }
 
+/// The sheet's pixels, each with its place and size as a title.
 fn pixels(out: &mut String, board: &Board) -> std::fmt::Result {
     let far = (0..board.w * board.h).filter_map(|at| size(board, at)).max().unwrap_or(0).max(1);
     for at in 0..board.w * board.h {

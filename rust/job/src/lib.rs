@@ -37,6 +37,7 @@ const DIRECTIONS: [&str; 8] = ["east", "south-east", "south", "south-west", "wes
 /// The engines, from number 1 on.
 const ENGINES: [&str; 3] = ["exact", "8sed", "4sed"];
 
+/// A kind of records.
 #[derive(Debug, PartialEq, Eq)]
 struct Kind {
     number: u16,
@@ -196,6 +197,7 @@ pub fn text(records: &[Record]) -> String {
     records.iter().map(line).collect()
 }
 
+/// The line of a record.
 fn line(Record { kind, numbers }: &Record) -> String {
     let mut line = kind.name.to_string();
     for (&(field, _), &number) in kind.fields.iter().zip(numbers) {

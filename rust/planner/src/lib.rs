@@ -11,21 +11,30 @@
 
 use std::fmt;
 
+/// The functions of the archive, as `include/planner.h` declares them.
 mod ffi {
+    /// What a radius and a pitch make.
     #[repr(C)]
     pub struct Measured {
+        /// 0, 15 or 18.
         pub answer: u32,
+        /// The q, 0 if refused.
         pub q: u32,
     }
 
+    /// What a job file splits into.
     #[repr(C)]
     pub struct Counted {
+        /// The number of records, 0 if refused.
         pub records: u32,
+        /// 0 or 19.
         pub answer: u32,
     }
 
     extern "C" {
+        /// The q of a radius and a pitch in micrometres.
         pub fn planner_radius(r: u32, p: u32) -> Measured;
+        /// The number of records of the job file of `length` bytes at `job`.
         pub fn planner_split(job: *const u8, length: usize) -> Counted;
     }
 }
