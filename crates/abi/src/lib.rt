@@ -13,6 +13,7 @@ ghost use Rattle.skeleton.specs.Skeleton.{skeletonOf};
 ghost use Rattle.raster.specs.Sheet.{copperOf, bare};
 ghost use Rattle.session.specs.State.{fresh, openedAs, stale, downAt};
 ghost use Rattle.session.specs.Calls.{onDone, openAnswer, fillAnswer, filledBy, buildAnswer, buildSession, buildMap, buildScratch, placeAnswer, runAnswer, runSession, liftSession, resizeAnswer, skeletonAnswer, rebuildAnswer, mapRow};
+ghost use Rattle.abi.specs.Span.{rowSpan};
 use session::Reply;
 use session::Session;
 
@@ -247,10 +248,10 @@ pub struct Span {
     pub len: usize,
 }
 
-// The bounds of the part that map row y hands out.
+// The bounds of the part that map row y hands out; an empty part is from 0.
 #[no_mangle]
 pub extern "C" fn abi_session_row(s: Session, map: &[i16], y: u16) -> Span
-    ensures { λ r. ⌜ r .len ≡ length (mapRow s (now (map .entry)) y) ⌝ }
+    ensures { λ r. ⌜ r ≡ rowSpan s (now (map .entry)) y ⌝ }
     ensures { λ r. ⌜ take (r .len) (drop (r .from) (now (map .entry))) ≡ mapRow s (now (map .entry)) y ⌝ }
 {
     let len = s.map_row(map, y).len();

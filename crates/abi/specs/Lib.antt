@@ -1,0 +1,2 @@
+-- `Span`: where a row of the map stands.
+pub mod Span
