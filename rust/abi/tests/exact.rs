@@ -2,26 +2,16 @@
 
 mod common;
 
-use common::{lend, old, size, Lent};
+use common::map_of;
 use model::boards::{self, patterned, scattered, Board};
 use model::exact;
 use model::random::Random;
 use model::scans::UNLABELLED;
-
-/// The library's map. Scratch is longer than it need be, more often than not.
-fn lent(board: &Board, random: &mut Random) -> Vec<[i16; 2]> {
-    let &Board { w, h, ref sheet } = board;
-    let more = [0, 1, w, random.between(0, 3 * w * h)][random.below(4) as usize];
-    let mut scratch = Lent::new(sheet.len() + more, 2 * w + 9, || old(random));
-    let (map, ()) = lend(board, random, |sheet, map| abi::exact(sheet, map, scratch.slice(), w, h));
-    let cleared = scratch.written(sheet.len(), "first W × H of scratch", board);
-    assert!(cleared.iter().all(|&number| number == 0), "scratch is not 0: {board:?}");
-    map
-}
+use model::skeleton::size;
 
 /// The library's map, which must be the expected one.
 fn compare(board: &Board, expected: &[[i16; 2]], random: &mut Random) {
-    let map = lent(board, random);
+    let map = map_of(board, 1, random);
     assert_eq!(map.len(), expected.len());
     for (at, found) in map.iter().enumerate() {
         assert_eq!(*found, expected[at], "pixel ({}, {}): {board:?}", at % board.w, at / board.w);
@@ -148,11 +138,11 @@ fn boards_of_document_01() {
     let mut random = Random::new(49);
     let m1 = boards::document_01();
     check(&m1, &mut random);
-    assert_eq!(lent(&m1, &mut random)[0], [2, 2]);
+    assert_eq!(map_of(&m1, 1, &mut random)[0], [2, 2]);
     let m5 = Board::with(3, 1, &[(0, 0)]);
-    assert_eq!(lent(&m5, &mut random), [[0, 0], [-1, 0], [-2, 0]]);
+    assert_eq!(map_of(&m5, 1, &mut random), [[0, 0], [-1, 0], [-2, 0]]);
     let m6 = Board::with(3, 1, &[(0, 0), (2, 0)]);
-    assert_eq!(lent(&m6, &mut random), [[0, 0], [-1, 0], [0, 0]]);
+    assert_eq!(map_of(&m6, 1, &mut random), [[0, 0], [-1, 0], [0, 0]]);
 }
 
 /// The exact size is 481 where 8SED has 485.
@@ -162,46 +152,6 @@ fn arrow_head() {
     let board = boards::arrow_head();
     check(&board, &mut random);
     let at = 10 * board.w + 3;
-    assert_eq!(size(lent(&board, &mut random)[at]), 481);
-    let (map, _) = lend(&board, &mut random, |sheet, map| abi::scan(sheet, map, board.w, board.h, true));
-    assert_eq!(size(map[at]), 485);
-}
-
-#[test]
-fn no_pixels() {
-    for (w, h) in [(0, 0), (0, 5), (2_048, 0)] {
-        let mut scratch = [7; 3];
-        abi::exact(&[], &mut [], &mut scratch, w, h);
-        assert_eq!(scratch, [7; 3]);
-    }
-}
-
-#[test]
-#[should_panic(expected = "a side above 2,048")]
-fn too_wide() {
-    abi::exact(&[0; 2_049], &mut [0; 4_098], &mut [0; 2_049], 2_049, 1);
-}
-
-#[test]
-#[should_panic(expected = "a side above 2,048")]
-fn too_high() {
-    abi::exact(&[0; 2_049], &mut [0; 4_098], &mut [0; 2_049], 1, 2_049);
-}
-
-#[test]
-#[should_panic(expected = "the sheet is not 3 × 2")]
-fn short_sheet() {
-    abi::exact(&[0; 5], &mut [0; 12], &mut [0; 6], 3, 2);
-}
-
-#[test]
-#[should_panic(expected = "the map is not 2 × 3 × 2")]
-fn long_map() {
-    abi::exact(&[0; 6], &mut [0; 13], &mut [0; 6], 3, 2);
-}
-
-#[test]
-#[should_panic(expected = "scratch is below 3 × 2")]
-fn short_scratch() {
-    abi::exact(&[0; 6], &mut [0; 12], &mut [0; 5], 3, 2);
+    assert_eq!(size(map_of(&board, 1, &mut random)[at]), 481);
+    assert_eq!(size(map_of(&board, 2, &mut random)[at]), 485);
 }

@@ -2,7 +2,8 @@
 
 mod common;
 
-use common::{old, Lent};
+use abi::session::{Reply, Session};
+use common::{any_scratch, assert_cleared, margin, old, opened, Lent};
 use model::boards::{self, patterned, scattered, Board};
 use model::random::Random;
 use model::resize;
@@ -10,7 +11,7 @@ use model::resize;
 /// The greatest q.
 const LIMIT: u32 = 4_194_304;
 
-type Call = fn(&mut [u8], &mut [i16], &mut [i16], usize, usize, u32);
+type Call = fn(Session, &mut [u8], &mut [i16], &mut [i16], u32) -> Reply;
 type Model = fn(&[u8], usize, usize, u32) -> Vec<u8>;
 
 /// A call of the library with the model's two: by brute force, and faster.
@@ -22,25 +23,22 @@ struct What {
 }
 
 const BOTH: [What; 2] = [
-    What { name: "expand", call: abi::expand, brute: resize::expand, faster: resize::expand_by_map },
-    What { name: "shrink", call: abi::shrink, brute: resize::shrink, faster: resize::shrink_by_map },
+    What { name: "expand", call: Session::expand, brute: resize::expand, faster: resize::expand_by_map },
+    What { name: "shrink", call: Session::shrink, brute: resize::shrink, faster: resize::shrink_by_map },
 ];
 
-/// The sheet that a call leaves. Map and scratch hold anything before, and scratch is longer than it need be, more often than not.
+/// The sheet that a call leaves. Map and scratch hold anything before.
 fn lent(call: Call, board: &Board, q: u32, random: &mut Random) -> Vec<u8> {
-    let &Board { w, h, ref sheet } = board;
-    let (pixels, margin) = (sheet.len(), 2 * w + 9);
-    let more = [0, 1, w, random.between(0, 9 * w)][random.below(4) as usize];
-    let mut lent = Lent::new(pixels, margin, || random.next() as u8);
-    lent.slice().copy_from_slice(sheet);
-    let mut map = Lent::new(2 * pixels, margin, || old(random));
-    let mut scratch = Lent::new(pixels + more, margin, || old(random));
-    call(lent.slice(), map.slice(), scratch.slice(), w, h, q);
+    let pixels = board.sheet.len();
+    let mut sheet = Lent::around(&board.sheet, margin(board), || random.next() as u8);
+    let mut map = Lent::new(2 * pixels, margin(board), || old(random));
+    let mut scratch = any_scratch(board, random);
+    let reply = call(opened(board), sheet.slice(), map.slice(), scratch.slice(), q);
+    assert_eq!(reply, Reply { answer: 0, session: opened(board) }, "{board:?}");
     let unlabelled = map.written(2 * pixels, "map", board);
     assert!(unlabelled.iter().all(|&number| number == -32_768), "the map is not unlabelled: {board:?}");
-    let cleared = scratch.written(pixels, "first W × H of scratch", board);
-    assert!(cleared.iter().all(|&number| number == 0), "scratch is not 0: {board:?}");
-    lent.written(pixels, "sheet", board).to_vec()
+    assert_cleared(&scratch, board);
+    sheet.written(pixels, "sheet", board).to_vec()
 }
 
 /// Both calls on a board. The model goes by brute force if that is a matter of moments.
@@ -182,64 +180,11 @@ fn largest() {
     let far = |x: usize, y: usize, (column, row): (usize, usize)| (x.abs_diff(column).pow(2) + y.abs_diff(row).pow(2)) as u32;
     for (corner, q) in [((0, 0), LIMIT), ((2_047, 2_047), 4_190_209)] {
         let disk = boards::drawn(2_048, 2_048, |x, y| far(x, y, corner) <= q);
-        compare("expand", abi::expand, &Board::with(2_048, 2_048, &[corner]), q, &disk.sheet, &mut random);
+        compare("expand", Session::expand, &Board::with(2_048, 2_048, &[corner]), q, &disk.sheet, &mut random);
     }
     for (corner, q) in [((2_047, 0), LIMIT), ((0, 2_047), 4_190_208)] {
         let board = turned(&Board::with(2_048, 2_048, &[corner]), &mut random);
         let rest = boards::drawn(2_048, 2_048, |x, y| far(x, y, corner) > q);
-        compare("shrink", abi::shrink, &board, q, &rest.sheet, &mut random);
+        compare("shrink", Session::shrink, &board, q, &rest.sheet, &mut random);
     }
-}
-
-#[test]
-fn no_pixels() {
-    for (w, h) in [(0, 0), (0, 5), (2_048, 0)] {
-        for What { call, .. } in BOTH {
-            let mut scratch = [7; 3];
-            call(&mut [], &mut [], &mut scratch, w, h, LIMIT);
-            assert_eq!(scratch, [7; 3]);
-        }
-    }
-}
-
-#[test]
-#[should_panic(expected = "a side above 2,048")]
-fn too_wide() {
-    abi::expand(&mut [0; 2_049], &mut [0; 4_098], &mut [0; 2_049], 2_049, 1, 0);
-}
-
-#[test]
-#[should_panic(expected = "a side above 2,048")]
-fn too_high() {
-    abi::shrink(&mut [0; 2_049], &mut [0; 4_098], &mut [0; 2_049], 1, 2_049, 0);
-}
-
-#[test]
-#[should_panic(expected = "q above 4,194,304")]
-fn expand_too_far() {
-    abi::expand(&mut [0; 6], &mut [0; 12], &mut [0; 6], 3, 2, LIMIT + 1);
-}
-
-#[test]
-#[should_panic(expected = "q above 4,194,304")]
-fn shrink_too_far() {
-    abi::shrink(&mut [0; 6], &mut [0; 12], &mut [0; 6], 3, 2, LIMIT + 1);
-}
-
-#[test]
-#[should_panic(expected = "the sheet is not 3 × 2")]
-fn short_sheet() {
-    abi::shrink(&mut [0; 5], &mut [0; 12], &mut [0; 6], 3, 2, 1);
-}
-
-#[test]
-#[should_panic(expected = "the map is not 2 × 3 × 2")]
-fn long_map() {
-    abi::expand(&mut [0; 6], &mut [0; 13], &mut [0; 6], 3, 2, 1);
-}
-
-#[test]
-#[should_panic(expected = "scratch is below 3 × 2")]
-fn short_scratch() {
-    abi::shrink(&mut [0; 6], &mut [0; 12], &mut [0; 5], 3, 2, 1);
 }

@@ -2,15 +2,16 @@
 
 mod common;
 
-use common::{lend, size};
+use common::map_of;
 use model::boards::{self, scattered, Board};
 use model::nearest;
 use model::random::Random;
 use model::scans::{self, UNLABELLED};
+use model::skeleton::size;
 
-/// The library's map and answer.
-fn lent(board: &Board, corners: bool, random: &mut Random) -> (Vec<[i16; 2]>, bool) {
-    lend(board, random, |sheet, map| abi::scan(sheet, map, board.w, board.h, corners))
+/// The library's map by 8SED (with `corners`) or 4SED.
+fn lent(board: &Board, corners: bool, random: &mut Random) -> Vec<[i16; 2]> {
+    map_of(board, if corners { 2 } else { 3 }, random)
 }
 
 /// The true squared distances: by brute force on small sheets, and the faster way on others.
@@ -28,8 +29,7 @@ fn check(board: &Board, random: &mut Random) {
     let &Board { w, h, ref sheet } = board;
     let distances = distances(board);
     for corners in [false, true] {
-        let (map, answer) = lent(board, corners, random);
-        assert!(!answer, "outside ±2,047, corners {corners}: {board:?}");
+        let map = lent(board, corners, random);
         let expected = scans::scan(sheet, w, h, corners);
         for at in 0..w * h {
             let (x, y, found) = (at % w, at / w, map[at]);
@@ -107,23 +107,10 @@ fn large() {
 fn largest() {
     let mut random = Random::new(16);
     for (corners, (column, row)) in [(true, (0, 2_047)), (true, (2_047, 0)), (false, (0, 0)), (false, (2_047, 2_047))] {
-        let (map, answer) = lent(&Board::with(2_048, 2_048, &[(column, row)]), corners, &mut random);
-        assert!(!answer);
+        let map = lent(&Board::with(2_048, 2_048, &[(column, row)]), corners, &mut random);
         for (at, &found) in map.iter().enumerate() {
             let way = [column as i16 - (at % 2_048) as i16, row as i16 - (at / 2_048) as i16];
             assert_eq!(found, way, "pixel {at}, copper ({column}, {row})");
-        }
-    }
-}
-
-/// A side of 2,049 is the first on which a vector can leave ±2,047.
-#[test]
-fn outside() {
-    let mut random = Random::new(17);
-    for corners in [false, true] {
-        for (at, expected) in [(0, true), (1, false), (2_047, false), (2_048, true)] {
-            assert_eq!(lent(&Board::with(2_049, 1, &[(at, 0)]), corners, &mut random).1, expected, "row, copper at {at}");
-            assert_eq!(lent(&Board::with(1, 2_049, &[(0, at)]), corners, &mut random).1, expected, "column, copper at {at}");
         }
     }
 }
@@ -133,11 +120,11 @@ fn boards_of_document_01() {
     let mut random = Random::new(18);
     let m1 = boards::document_01();
     check(&m1, &mut random);
-    assert_eq!(lent(&m1, false, &mut random).0[0], [3, 0]);
-    assert_eq!(size(lent(&m1, true, &mut random).0[0]), 8);
+    assert_eq!(lent(&m1, false, &mut random)[0], [3, 0]);
+    assert_eq!(size(lent(&m1, true, &mut random)[0]), 8);
     let m5 = Board::with(3, 1, &[(0, 0)]);
     for corners in [false, true] {
-        assert_eq!(lent(&m5, corners, &mut random).0, [[0, 0], [-1, 0], [-2, 0]]);
+        assert_eq!(lent(&m5, corners, &mut random), [[0, 0], [-1, 0], [-2, 0]]);
     }
 }
 
@@ -147,35 +134,6 @@ fn arrow_head() {
     let board = boards::arrow_head();
     check(&board, &mut random);
     let at = 10 * board.w + 3;
-    assert_eq!(size(lent(&board, true, &mut random).0[at]), 485);
+    assert_eq!(size(lent(&board, true, &mut random)[at]), 485);
     assert_eq!(distances(&board)[at], Some(481));
-}
-
-#[test]
-fn no_rows() {
-    assert!(!abi::scan(&[], &mut [], 5, 0, true));
-}
-
-#[test]
-#[should_panic(expected = "without columns")]
-fn no_columns() {
-    abi::scan(&[], &mut [], 0, 5, true);
-}
-
-#[test]
-#[should_panic(expected = "the sheet is not 3 × 2")]
-fn short_sheet() {
-    abi::scan(&[0; 5], &mut [0; 12], 3, 2, true);
-}
-
-#[test]
-#[should_panic(expected = "the map is not 2 × 3 × 2")]
-fn short_map() {
-    abi::scan(&[0; 6], &mut [0; 11], 3, 2, true);
-}
-
-#[test]
-#[should_panic(expected = "the sheet is not")]
-fn sides_that_wrap() {
-    abi::scan(&[], &mut [], 1 << 32, usize::MAX / 2 + 1, true);
 }

@@ -2,6 +2,7 @@
 
 pub mod fused;
 pub mod plain;
+pub mod plain_calls;
 pub mod plain_exact;
 pub mod plain_resize;
 pub mod plain_skeleton;
@@ -9,8 +10,10 @@ pub mod plain_skeleton;
 #[cfg(test)]
 mod tests {
     use super::*;
+    use abi::session::{Reply, Session};
     use model::boards::{self, Board};
     use model::random::Random;
+    use model::session::Fields;
 
     type Scan = fn(&[u8], &mut [i16], usize, usize, bool) -> bool;
 
@@ -117,6 +120,69 @@ mod tests {
     #[test]
     fn skeleton_as_the_model() {
         on_boards(24, check_skeleton);
+    }
+
+    /// Sessions and slices of which something is wrong, and others: the plain calls answer and leave what the model's do.
+    fn check_calls(board: &Board, random: &mut Random) {
+        for _ in 0..4 {
+            let fields = any_session(board, random);
+            let session = library_session(fields);
+            let mut length = |right: usize| if random.below(6) == 0 { right + 1 - 2 * random.below(2) as usize } else { right };
+            let pixels = board.sheet.len();
+            let mut sheet = board.sheet.clone();
+            sheet.resize(length(pixels), 1);
+            let [marks, out, scratch, numbers] = [(); 4].map(|()| length(pixels));
+            let (marks, mut out, mut scratch) = (vec![1; marks], vec![7; out], vec![7; scratch]);
+            let mut map = anything(2 * numbers, random);
+            let number = [fields.engine, random.below(5) as u16][random.below(2) as usize];
+            let q = [random.below(30), 4_194_304 + random.below(2)][random.below(2) as usize] as u32;
+            for which in 0..5 {
+                let mut expected = (sheet.clone(), map.clone(), scratch.clone(), out.clone());
+                let (a, b, c, d) = &mut expected;
+                let (answer, after) = match which {
+                    0 => fields.build(a, b, c, number),
+                    1 => fields.skeleton(b, d),
+                    2 => fields.rebuild(b, &marks, d),
+                    3 => fields.expand(a, b, c, q),
+                    _ => fields.shrink(a, b, c, q),
+                };
+                let reply = match which {
+                    0 => plain_calls::build(session, &sheet, &mut map, &mut scratch, number, &plain_calls::FUSED),
+                    1 => plain_calls::skeleton(session, &map, &mut out),
+                    2 => plain_calls::rebuild(session, &map, &marks, &mut out),
+                    3 => plain_calls::expand(session, &mut sheet, &mut map, &mut scratch, q),
+                    _ => plain_calls::shrink(session, &mut sheet, &mut map, &mut scratch, q),
+                };
+                assert_eq!(reply, Reply { answer, session: library_session(after) }, "call {which} with {fields:?}: {board:?}");
+                assert!((&sheet, &map, &scratch, &out) == (&expected.0, &expected.1, &expected.2, &expected.3), "call {which}: {board:?}");
+            }
+        }
+    }
+
+    /// A session with the board's sheet open, and now and then a field that may not be so.
+    fn any_session(board: &Board, random: &mut Random) -> Fields {
+        let (width, height) = board.sides();
+        let engine = random.below(5) as u16;
+        let mut fields = Fields { opened: true, width, height, current: engine != 0, engine, ..Fields::FRESH };
+        match random.below(8) {
+            0 => fields.opened = false,
+            1 => fields.width = [0, 2_049][random.below(2) as usize],
+            2 => fields.x = 1,
+            3 => fields.lowered = true,
+            _ => {}
+        }
+        fields
+    }
+
+    /// The session in the library's own type.
+    fn library_session(fields: Fields) -> Session {
+        let Fields { opened, width, height, current, engine, lowered, x, y, q } = fields;
+        Session { opened, width, height, current, engine, lowered, x, y, q }
+    }
+
+    #[test]
+    fn calls_as_the_model() {
+        on_boards(25, check_calls);
     }
 
     #[test]

@@ -6,7 +6,8 @@
 
 mod peers;
 
-use bench::{fused, plain, plain_exact, plain_resize, plain_skeleton};
+use abi::session::{Reply, Session};
+use bench::plain_calls::{self, FUSED, PLAIN};
 use model::boards::{self, Board};
 use model::random::Random;
 use std::time::{Duration, Instant};
@@ -14,10 +15,10 @@ use std::time::{Duration, Instant};
 const SIDES: [usize; 3] = [512, 1_024, 2_048];
 const BOARDS: [&str; 7] = ["one pixel", "3 pixels", "1 % random", "50 % random", "tracks", "diagonal", "full"];
 
-/// The slices of a contender, in which it may write anything. Before each call the sheet is the board's.
+/// The session and the slices of a contender, in which it may write anything. Before each call the session has the board's sheet open, and
+/// the sheet is the board's.
 struct Slices<'a> {
-    w: usize,
-    h: usize,
+    session: Session,
     sheet: &'a mut [u8],
     map: &'a mut [i16],
     scratch: &'a mut [i16],
@@ -25,14 +26,14 @@ struct Slices<'a> {
     out: &'a mut [u8],
 }
 
-type Call = fn(&mut Slices);
+type Call = fn(&mut Slices) -> Reply;
 
 /// What is timed: a call of the library, the same in plain Rust, and a tuned variant of that if there is one. What they need besides the
 /// sheet is made ready before, off the clock. `lent` is how many bytes a pixel the call is lent.
 struct What {
     name: &'static str,
     lent: usize,
-    ready: Call,
+    ready: fn(&mut Slices),
     library: Call,
     plain: Call,
     fused: Option<Call>,
@@ -41,15 +42,15 @@ struct What {
 /// By how much expand and shrink are timed.
 const Q: u32 = 25;
 
-/// The exact map of the sheet.
+/// The exact map of the sheet, which is then current.
 fn map_of(on: &mut Slices) {
-    plain_exact::exact(on.sheet, on.map, on.scratch, on.w, on.h);
+    on.session = plain_calls::build(on.session, on.sheet, on.map, on.scratch, 1, &PLAIN).session;
 }
 
 /// The exact map of the sheet, and its skeleton as the marks.
 fn skeleton_of(on: &mut Slices) {
     map_of(on);
-    plain_skeleton::skeleton(on.map, on.marks, on.w, on.h);
+    plain_calls::skeleton(on.session, on.map, on.marks);
 }
 
 const WHATS: [What; 7] = [
@@ -57,56 +58,56 @@ const WHATS: [What; 7] = [
         name: "exact",
         lent: 7,
         ready: |_| {},
-        library: |on| abi::exact(on.sheet, on.map, on.scratch, on.w, on.h),
-        plain: |on| plain_exact::exact(on.sheet, on.map, on.scratch, on.w, on.h),
-        fused: Some(|on| plain_exact::exact_fused(on.sheet, on.map, on.scratch, on.w, on.h)),
+        library: |on| on.session.build(on.sheet, on.map, on.scratch, 1),
+        plain: |on| plain_calls::build(on.session, on.sheet, on.map, on.scratch, 1, &PLAIN),
+        fused: Some(|on| plain_calls::build(on.session, on.sheet, on.map, on.scratch, 1, &FUSED)),
     },
     What {
         name: "8SED",
         lent: 5,
         ready: |_| {},
-        library: |on| assert!(!abi::scan(on.sheet, on.map, on.w, on.h, true)),
-        plain: |on| assert!(!plain::scan(on.sheet, on.map, on.w, on.h, true)),
-        fused: Some(|on| assert!(!fused::scan(on.sheet, on.map, on.w, on.h, true))),
+        library: |on| on.session.build(on.sheet, on.map, on.scratch, 2),
+        plain: |on| plain_calls::build(on.session, on.sheet, on.map, on.scratch, 2, &PLAIN),
+        fused: Some(|on| plain_calls::build(on.session, on.sheet, on.map, on.scratch, 2, &FUSED)),
     },
     What {
         name: "4SED",
         lent: 5,
         ready: |_| {},
-        library: |on| assert!(!abi::scan(on.sheet, on.map, on.w, on.h, false)),
-        plain: |on| assert!(!plain::scan(on.sheet, on.map, on.w, on.h, false)),
-        fused: Some(|on| assert!(!fused::scan(on.sheet, on.map, on.w, on.h, false))),
+        library: |on| on.session.build(on.sheet, on.map, on.scratch, 3),
+        plain: |on| plain_calls::build(on.session, on.sheet, on.map, on.scratch, 3, &PLAIN),
+        fused: Some(|on| plain_calls::build(on.session, on.sheet, on.map, on.scratch, 3, &FUSED)),
     },
     What {
         name: "expand",
         lent: 7,
         ready: |_| {},
-        library: |on| abi::expand(on.sheet, on.map, on.scratch, on.w, on.h, Q),
-        plain: |on| plain_resize::expand(on.sheet, on.map, on.scratch, on.w, on.h, Q),
+        library: |on| on.session.expand(on.sheet, on.map, on.scratch, Q),
+        plain: |on| plain_calls::expand(on.session, on.sheet, on.map, on.scratch, Q),
         fused: None,
     },
     What {
         name: "shrink",
         lent: 7,
         ready: |_| {},
-        library: |on| abi::shrink(on.sheet, on.map, on.scratch, on.w, on.h, Q),
-        plain: |on| plain_resize::shrink(on.sheet, on.map, on.scratch, on.w, on.h, Q),
+        library: |on| on.session.shrink(on.sheet, on.map, on.scratch, Q),
+        plain: |on| plain_calls::shrink(on.session, on.sheet, on.map, on.scratch, Q),
         fused: None,
     },
     What {
         name: "skeleton",
         lent: 5,
         ready: map_of,
-        library: |on| abi::skeleton(on.map, on.out, on.w, on.h),
-        plain: |on| plain_skeleton::skeleton(on.map, on.out, on.w, on.h),
+        library: |on| on.session.skeleton(on.map, on.out),
+        plain: |on| plain_calls::skeleton(on.session, on.map, on.out),
         fused: None,
     },
     What {
         name: "rebuild",
         lent: 6,
         ready: skeleton_of,
-        library: |on| abi::rebuild(on.map, on.marks, on.out, on.w, on.h),
-        plain: |on| plain_skeleton::rebuild(on.map, on.marks, on.out, on.w, on.h),
+        library: |on| on.session.rebuild(on.map, on.marks, on.out),
+        plain: |on| plain_calls::rebuild(on.session, on.map, on.marks, on.out),
         fused: None,
     },
 ];
@@ -130,9 +131,9 @@ impl Memory {
     fn lend(&mut self, board: &Board) -> Slices<'_> {
         let &Board { w, h, ref sheet } = board;
         self.sheet[..w * h].copy_from_slice(sheet);
+        let (width, height) = board.sides();
         Slices {
-            w,
-            h,
+            session: Session { opened: true, width, height, ..Session::fresh() },
             sheet: &mut self.sheet[..w * h],
             map: &mut self.map[..2 * w * h],
             scratch: &mut self.scratch[..w * h],
@@ -145,12 +146,12 @@ impl Memory {
 /// Makes the call so many frames further down the stack. Where its working rows lie beside the lent slices changes a call's time by a fifth and
 /// more, and another place in each turn lets the shortest time be that of a good one for every contender.
 #[inline(never)]
-fn deep(frames: usize, call: Call, on: &mut Slices) {
+fn deep(frames: usize, call: Call, on: &mut Slices) -> Reply {
     std::hint::black_box([0_u8; 1_000]);
     if frames == 0 {
-        call(on);
+        call(on)
     } else {
-        deep(frames - 1, call, on);
+        deep(frames - 1, call, on)
     }
 }
 
@@ -160,7 +161,7 @@ struct Line {
     lent: usize,
     name: &'static str,
     board: Board,
-    ready: Call,
+    ready: fn(&mut Slices),
     calls: Vec<Call>,
     best: Vec<Duration>,
 }
@@ -172,18 +173,20 @@ impl Line {
         Line { what: what.name, lent: what.lent, name, board: board(name, side), ready: what.ready, calls, best }
     }
 
-    /// Runs each contender once, another first in each turn. They must write the same.
+    /// Runs each contender once, another first in each turn. The call must be done, and they must write the same.
     fn run(&mut self, turn: usize, memories: &mut [Memory]) {
         let mut slices: Vec<Slices> = memories.iter_mut().take(self.calls.len()).map(|memory| memory.lend(&self.board)).collect();
         slices.iter_mut().for_each(self.ready);
         for (place, on) in slices.iter_mut().enumerate() {
             let which = (turn + place) % self.calls.len();
             let start = Instant::now();
-            deep(turn % 16, self.calls[which], on);
+            let reply = deep(turn % 16, self.calls[which], on);
             self.best[which] = self.best[which].min(start.elapsed());
+            assert_eq!(reply.answer, 0, "{} on {} {}", self.what, self.name, self.board.w);
+            on.session = reply.session;
         }
         for on in &slices[1..] {
-            let same = on.sheet == slices[0].sheet && on.map == slices[0].map && on.out == slices[0].out;
+            let same = on.session == slices[0].session && on.sheet == slices[0].sheet && on.map == slices[0].map && on.out == slices[0].out;
             assert!(same, "{} on {} {}: the contenders wrote different things", self.what, self.name, self.board.w);
         }
     }

@@ -2,6 +2,7 @@
 //! gives distances and no vectors, and scipy's indices. Both run in Python, one thread each, on the same sheets and in the same run.
 
 use crate::cell;
+use abi::session::Session;
 use model::boards::Board;
 use std::io::{BufRead, BufReader, Write};
 use std::process::{Child, Command, Stdio};
@@ -42,13 +43,17 @@ fn start(rounds: usize) -> std::io::Result<Child> {
 }
 
 /// The library's shortest time, in nanoseconds a pixel.
-fn library(rounds: usize, &Board { w, h, ref sheet }: &Board) -> f64 {
+fn library(rounds: usize, board: &Board) -> f64 {
+    let &Board { w, h, ref sheet } = board;
+    let (width, height) = board.sides();
+    let session = Session { opened: true, width, height, ..Session::fresh() };
     let (mut map, mut scratch) = (vec![0; 2 * w * h], vec![0; w * h]);
     let mut best = Duration::MAX;
     for _ in 0..rounds {
         let start = Instant::now();
-        abi::exact(sheet, &mut map, &mut scratch, w, h);
+        let reply = session.build(sheet, &mut map, &mut scratch, 1);
         best = best.min(start.elapsed());
+        assert_eq!(reply.answer, 0);
     }
     best.as_nanos() as f64 / (w * h) as f64
 }

@@ -26,6 +26,11 @@ impl Board {
         board
     }
 
+    /// The sides as a call takes them.
+    pub fn sides(&self) -> (u16, u16) {
+        (self.w as u16, self.h as u16)
+    }
+
     /// Writes copper in a square of `2 × reach + 1` pixels around (x, y), as far as it lies on the sheet.
     fn dab(&mut self, x: usize, y: usize, reach: usize) {
         for row in y.saturating_sub(reach)..self.h.min(y + reach + 1) {

@@ -10,6 +10,20 @@ pub fn any(pixels: usize, random: &mut Random) -> Vec<[i16; 2]> {
     (0..pixels).map(|_| vector(kinds, random)).collect()
 }
 
+/// Whether some pixel has size 0, without which there is no skeleton.
+pub fn has_copper(map: &[[i16; 2]]) -> bool {
+    map.contains(&[0, 0])
+}
+
+/// A map that holds anything, and copper somewhere.
+pub fn any_with_copper(pixels: usize, random: &mut Random) -> Vec<[i16; 2]> {
+    let mut map = any(pixels, random);
+    if !has_copper(&map) {
+        map[random.between(0, pixels - 1)] = [0, 0];
+    }
+    map
+}
+
 /// A vector of one of the first kinds of those below.
 fn vector(kinds: u64, random: &mut Random) -> [i16; 2] {
     let mut short = |most: usize| random.between(0, 2 * most) as i16 - most as i16;

@@ -3,9 +3,26 @@
 // no test file needs all of it
 #![allow(dead_code)]
 
+use abi::session::{Reply, Session};
 use model::boards::Board;
 use model::random::Random;
 pub use soak::lent::Lent;
+
+/// How many numbers around a lent slice must stay as they are.
+pub fn margin(board: &Board) -> usize {
+    2 * board.w + 9
+}
+
+/// The session with a board's sheet open, and nothing else.
+pub fn opened(board: &Board) -> Session {
+    let (width, height) = board.sides();
+    Session { opened: true, width, height, ..Session::fresh() }
+}
+
+/// The session with a board's sheet open and a map that an engine has built.
+pub fn built(board: &Board, engine: u16) -> Session {
+    Session { current: true, engine, ..opened(board) }
+}
 
 /// What a map or scratch may hold before: anything, and the numbers with a meaning more often.
 pub fn old(random: &mut Random) -> i16 {
@@ -16,21 +33,33 @@ pub fn old(random: &mut Random) -> i16 {
     }
 }
 
-pub fn size([dx, dy]: [i16; 2]) -> u64 {
-    let (dx, dy) = (i64::from(dx), i64::from(dy));
-    (dx * dx + dy * dy) as u64
+/// A scratch slice that holds anything. It is longer than it need be, more often than not.
+pub fn any_scratch(board: &Board, random: &mut Random) -> Lent<i16> {
+    let pixels = board.sheet.len();
+    let more = [0, 1, board.w, random.between(0, 3 * board.w + 9)][random.below(4) as usize];
+    Lent::new(pixels + more, margin(board), || old(random))
 }
 
-/// The map that a call writes, and its answer. It is lent the board's sheet, which it must not write, and a map that holds anything.
-pub fn lend<A>(board: &Board, random: &mut Random, call: impl FnOnce(&[u8], &mut [i16]) -> A) -> (Vec<[i16; 2]>, A) {
+/// Asserts that the first W × H numbers of scratch are 0 and the rest is as it was.
+pub fn assert_cleared(scratch: &Lent<i16>, board: &Board) {
+    let cleared = scratch.written(board.sheet.len(), "first W × H of scratch", board);
+    assert!(cleared.iter().all(|&number| number == 0), "scratch is not 0: {board:?}");
+}
+
+/// The map that an engine builds of a board. It is lent the board's sheet, which it must not write, and a map that holds anything; the other
+/// engines than exact are lent a scratch of any length, which they must not write either.
+pub fn map_of(board: &Board, engine: u16, random: &mut Random) -> Vec<[i16; 2]> {
     let pixels = board.sheet.len();
-    let margin = 2 * board.w + 9;
-    let mut sheet = Lent::new(pixels, margin, || random.next() as u8);
-    sheet.slice().copy_from_slice(&board.sheet);
-    let mut map = Lent::new(2 * pixels, margin, || old(random));
-    let answer = call(sheet.slice(), map.slice());
-    assert!(sheet.slice() == board.sheet, "the sheet was written: {board:?}");
-    sheet.written(pixels, "sheet", board);
-    let written = map.written(2 * pixels, "map", board);
-    (written.chunks(2).map(|pixel| [pixel[0], pixel[1]]).collect(), answer)
+    let mut sheet = Lent::around(&board.sheet, margin(board), || random.next() as u8);
+    let mut map = Lent::new(2 * pixels, margin(board), || old(random));
+    let mut scratch = if engine == 1 { any_scratch(board, random) } else { Lent::new(random.between(0, 9), 9, || old(random)) };
+    let reply = opened(board).build(sheet.slice(), map.slice(), scratch.slice(), engine);
+    assert_eq!(reply, Reply { answer: 0, session: built(board, engine) }, "engine {engine}: {board:?}");
+    sheet.written(0, "sheet", board);
+    if engine == 1 {
+        assert_cleared(&scratch, board);
+    } else {
+        scratch.written(0, "scratch", board);
+    }
+    map.written(2 * pixels, "map", board).as_chunks().0.to_vec()
 }
