@@ -36,12 +36,8 @@ fn small() {
 #[test]
 fn all_tiny() {
     let mut random = Random::new(42);
-    for w in 1..=12 {
-        for h in 1..=12 / w {
-            for copper in 0..1_u32 << (w * h) {
-                check(&boards::drawn(w, h, |x, y| copper >> (y * w + x) & 1 == 1), &mut random);
-            }
-        }
+    for board in boards::all_tiny(12) {
+        check(&board, &mut random);
     }
 }
 
@@ -125,10 +121,7 @@ fn largest_with_little_to_see() {
     let mut random = Random::new(48);
     compare(&Board::bare(2_048, 2_048), &vec![UNLABELLED; 2_048 * 2_048], &mut random);
     compare(&boards::full(2_048, 2_048), &vec![[0, 0]; 2_048 * 2_048], &mut random);
-    let corners = [(0, 0), (2_047, 0), (0, 2_047), (2_047, 2_047), (1_023, 1_023)];
-    let sides = [(1_024, 0), (0, 1_024), (2_047, 1_024), (1_024, 2_047)];
-    for copper in [&corners[..], &sides] {
-        let board = Board::with(2_048, 2_048, copper);
+    for board in [boards::corners_and_middle(2_048, 2_048), boards::middles_of_sides(2_048, 2_048)] {
         compare(&board, &exact::exact(&board.sheet, 2_048, 2_048), &mut random);
     }
 }
@@ -139,10 +132,8 @@ fn boards_of_document_01() {
     let m1 = boards::document_01();
     check(&m1, &mut random);
     assert_eq!(map_of(&m1, 1, &mut random)[0], [2, 2]);
-    let m5 = Board::with(3, 1, &[(0, 0)]);
-    assert_eq!(map_of(&m5, 1, &mut random), [[0, 0], [-1, 0], [-2, 0]]);
-    let m6 = Board::with(3, 1, &[(0, 0), (2, 0)]);
-    assert_eq!(map_of(&m6, 1, &mut random), [[0, 0], [-1, 0], [0, 0]]);
+    assert_eq!(map_of(&boards::m5(), 1, &mut random), [[0, 0], [-1, 0], [-2, 0]]);
+    assert_eq!(map_of(&boards::m6(), 1, &mut random), [[0, 0], [-1, 0], [0, 0]]);
 }
 
 /// The exact size is 481 where 8SED has 485.

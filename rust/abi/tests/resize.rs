@@ -4,7 +4,7 @@ mod common;
 
 use abi::session::{Reply, Session};
 use common::{any_scratch, assert_cleared, margin, old, opened, Lent};
-use model::boards::{self, patterned, scattered, Board};
+use model::boards::{self, Board};
 use model::random::Random;
 use model::resize;
 
@@ -73,19 +73,13 @@ fn any_q(board: &Board, random: &mut Random) -> u32 {
     q.min(LIMIT.into()) as u32
 }
 
-/// A board with copper where the other is bare. Its bytes are anything but 0.
-fn turned(board: &Board, random: &mut Random) -> Board {
-    let sheet = board.sheet.iter().map(|&byte| if byte == 0 { 1 + random.below(255) as u8 } else { 0 }).collect();
-    Board { sheet, ..*board }
-}
-
 /// Any board, and every other time turned round.
 fn any_board(w: usize, h: usize, random: &mut Random) -> Board {
-    let board = [scattered, patterned][random.below(2) as usize](w, h, random);
+    let board = boards::any(w, h, random);
     if random.below(2) == 0 {
         board
     } else {
-        turned(&board, random)
+        board.turned_round(random)
     }
 }
 
@@ -104,14 +98,9 @@ fn small() {
 #[test]
 fn all_tiny() {
     let mut random = Random::new(72);
-    for w in 1..=9 {
-        for h in 1..=9 / w {
-            for copper in 0..1_u32 << (w * h) {
-                let board = boards::drawn(w, h, |x, y| copper >> (y * w + x) & 1 == 1);
-                for q in [0, 1, 2, 4, 5, 8, LIMIT] {
-                    check(&board, q, &mut random);
-                }
-            }
+    for board in boards::all_tiny(9) {
+        for q in [0, 1, 2, 4, 5, 8, LIMIT] {
+            check(&board, q, &mut random);
         }
     }
 }
@@ -124,7 +113,7 @@ fn all_alike() {
         for q in [0, 1, 2, 1_000, LIMIT] {
             for What { name, call, .. } in BOTH {
                 compare(name, call, &Board::bare(w, h), q, &vec![0; w * h], &mut random);
-                let full = turned(&Board::bare(w, h), &mut random);
+                let full = Board::bare(w, h).turned_round(&mut random);
                 compare(name, call, &full, q, &vec![1; w * h], &mut random);
             }
             // the largest once, for it takes longer
@@ -154,7 +143,7 @@ fn medium() {
     for _ in 0..200 {
         let (w, h) = (random.between(2, 64), random.between(2, 64));
         let tracks = boards::tracks(w, h, &mut random);
-        for board in [turned(&tracks, &mut random), tracks, any_board(w, h, &mut random)] {
+        for board in [tracks.turned_round(&mut random), tracks, any_board(w, h, &mut random)] {
             let q = any_q(&board, &mut random);
             check(&board, q, &mut random);
         }
@@ -166,7 +155,7 @@ fn large() {
     let mut random = Random::new(76);
     for (w, h) in [(2_048, 64), (64, 2_048), (512, 512)] {
         let tracks = boards::tracks(w, h, &mut random);
-        for board in [turned(&tracks, &mut random), tracks, boards::diagonal(w.min(h), w.min(h))] {
+        for board in [tracks.turned_round(&mut random), tracks, boards::diagonal(w.min(h), w.min(h))] {
             let q = [25, any_q(&board, &mut random)][random.below(2) as usize];
             check(&board, q, &mut random);
         }
@@ -183,7 +172,7 @@ fn largest() {
         compare("expand", Session::expand, &Board::with(2_048, 2_048, &[corner]), q, &disk.sheet, &mut random);
     }
     for (corner, q) in [((2_047, 0), LIMIT), ((0, 2_047), 4_190_208)] {
-        let board = turned(&Board::with(2_048, 2_048, &[corner]), &mut random);
+        let board = Board::with(2_048, 2_048, &[corner]).turned_round(&mut random);
         let rest = boards::drawn(2_048, 2_048, |x, y| far(x, y, corner) > q);
         compare("shrink", Session::shrink, &board, q, &rest.sheet, &mut random);
     }

@@ -64,13 +64,8 @@ fn small() {
 #[test]
 fn all_tiny() {
     let mut random = Random::new(12);
-    for w in 1..=12 {
-        for h in 1..=12 / w {
-            for copper in 0..1_u32 << (w * h) {
-                let sheet = (0..w * h).map(|at| (copper >> at & 1) as u8).collect();
-                check(&Board { w, h, sheet }, &mut random);
-            }
-        }
+    for board in boards::all_tiny(12) {
+        check(&board, &mut random);
     }
 }
 
@@ -122,9 +117,8 @@ fn boards_of_document_01() {
     check(&m1, &mut random);
     assert_eq!(lent(&m1, false, &mut random)[0], [3, 0]);
     assert_eq!(size(lent(&m1, true, &mut random)[0]), 8);
-    let m5 = Board::with(3, 1, &[(0, 0)]);
     for corners in [false, true] {
-        assert_eq!(lent(&m5, corners, &mut random), [[0, 0], [-1, 0], [-2, 0]]);
+        assert_eq!(lent(&boards::m5(), corners, &mut random), [[0, 0], [-1, 0], [-2, 0]]);
     }
 }
 

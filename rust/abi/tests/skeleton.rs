@@ -4,7 +4,7 @@ mod common;
 
 use abi::session::{Reply, Session};
 use common::{built, map_of, margin, Lent};
-use model::boards::{self, patterned, scattered, Board};
+use model::boards::{self, Board};
 use model::random::Random;
 use model::scans::UNLABELLED;
 use model::{exact, maps, skeleton};
@@ -105,16 +105,12 @@ fn any_marks(pixels: usize, random: &mut Random) -> Vec<u8> {
     (0..pixels).map(|_| mark()).collect()
 }
 
-fn any_board(w: usize, h: usize, random: &mut Random) -> Board {
-    [scattered, patterned][random.below(2) as usize](w, h, random)
-}
-
 #[test]
 fn small_exact_maps() {
     let mut random = Random::new(81);
     for _ in 0..20_000 {
         let (w, h) = (random.between(1, 12), random.between(1, 12));
-        let board = any_board(w, h, &mut random);
+        let board = boards::any(w, h, &mut random);
         let map = exact::exact(&board.sheet, w, h);
         Case { board: &board, map: &map }.check(&mut random);
     }
@@ -156,7 +152,7 @@ fn lines() {
     for _ in 0..100 {
         let n = random.between(1, 600);
         for (w, h) in [(n, 1), (1, n), (n, 2), (2, n)] {
-            let board = any_board(w, h, &mut random);
+            let board = boards::any(w, h, &mut random);
             Case { board: &board, map: &exact::exact(&board.sheet, w, h) }.check(&mut random);
             Case { board: &board, map: &maps::any_with_copper(w * h, &mut random) }.check(&mut random);
         }
@@ -168,7 +164,7 @@ fn medium() {
     let mut random = Random::new(85);
     for _ in 0..60 {
         let (w, h) = (random.between(2, 48), random.between(2, 48));
-        for board in [boards::tracks(w, h, &mut random), any_board(w, h, &mut random)] {
+        for board in [boards::tracks(w, h, &mut random), boards::any(w, h, &mut random)] {
             Case { board: &board, map: &map_of(&board, 1, &mut random) }.check(&mut random);
             Case { board: &board, map: &maps::any_with_copper(w * h, &mut random) }.check(&mut random);
         }
@@ -180,7 +176,7 @@ fn medium() {
 fn longest() {
     let mut random = Random::new(86);
     for (w, h) in [(2_048, 3), (3, 2_048)] {
-        let board = any_board(w, h, &mut random);
+        let board = boards::any(w, h, &mut random);
         for way in [[2_047, 1], [1_023, 0], [-32_768, 0], [-32_768, -32_767], UNLABELLED] {
             let at = random.between(0, w * h - 1);
             let mut map = map_of(&board, 1, &mut random);
@@ -202,13 +198,12 @@ fn covers_the_bare() {
     for turn in 0..3_000 {
         let most = if turn % 10 == 0 { 100 } else { 30 };
         let (w, h) = (random.between(1, most), random.between(1, most));
-        let mut board = any_board(w, h, &mut random);
+        let mut board = boards::any(w, h, &mut random);
         board.sheet[random.between(0, w * h - 1)] = 1;
         Case { board: &board, map: &map_of(&board, 1, &mut random) }.covers_the_bare(&mut random);
     }
     for copper in 1..=40 {
-        let mut board = Board::bare(100, 100);
-        (0..copper).for_each(|_| board.sheet[random.between(0, 9_999)] = 1 + random.below(255) as u8);
+        let board = boards::sprinkled(100, 100, copper, &mut random);
         let map = map_of(&board, 1, &mut random);
         let kept = Case { board: &board, map: &map }.covers_the_bare(&mut random);
         let most = map.iter().map(|&way| skeleton::size(way)).max();
@@ -253,7 +248,7 @@ fn all_alike() {
 #[test]
 fn m7() {
     let mut random = Random::new(90);
-    let board = Board::with(5, 1, &[(0, 0), (4, 0)]);
+    let board = boards::m7();
     let case = Case { board: &board, map: &map_of(&board, 1, &mut random) };
     let kept = case.skeleton(&mut random);
     assert_eq!(kept, [0, 0, 1, 0, 0]);

@@ -9,11 +9,9 @@ mod peers;
 use abi::session::{Reply, Session};
 use bench::plain_calls::{self, FUSED, PLAIN};
 use model::boards::{self, Board};
-use model::random::Random;
 use std::time::{Duration, Instant};
 
 const SIDES: [usize; 3] = [512, 1_024, 2_048];
-const BOARDS: [&str; 7] = ["one pixel", "3 pixels", "1 % random", "50 % random", "tracks", "diagonal", "full"];
 
 /// The session and the slices of a contender, in which it may write anything. Before each call the session has the board's sheet open, and
 /// the sheet is the board's.
@@ -170,7 +168,7 @@ impl Line {
     fn new(what: &What, name: &'static str, side: usize) -> Self {
         let calls: Vec<Call> = [Some(what.library), Some(what.plain), what.fused].into_iter().flatten().collect();
         let best = vec![Duration::MAX; calls.len()];
-        Line { what: what.name, lent: what.lent, name, board: board(name, side), ready: what.ready, calls, best }
+        Line { what: what.name, lent: what.lent, name, board: boards::benchmark(name, side), ready: what.ready, calls, best }
     }
 
     /// Runs each contender once, another first in each turn. The call must be done, and they must write the same.
@@ -197,26 +195,13 @@ impl Line {
     }
 }
 
-fn board(name: &str, side: usize) -> Board {
-    let mut random = Random::new(31);
-    match name {
-        "one pixel" => boards::one_pixel(side, side),
-        "3 pixels" => Board::with(side, side, &[(side / 5, side / 3), (side / 2, side / 7), (side - 9, side - 2)]),
-        "1 % random" => boards::random(side, side, 10, &mut random),
-        "50 % random" => boards::random(side, side, 500, &mut random),
-        "tracks" => boards::tracks(side, side, &mut random),
-        "diagonal" => boards::diagonal(side, side),
-        _ => boards::full(side, side),
-    }
-}
-
 /// Times what any expand and shrink must do at least, since both leave the sheet, the map and scratch written: to write these slices once.
 fn write_once(rounds: usize) {
     println!("writing sheet, map and scratch once, 7 bytes a pixel: ns a pixel, the shortest of {rounds} runs\n");
     let mut memory = Memory::new(2_048 * 2_048);
     let mut first = None;
     for side in SIDES {
-        let board = board("full", side);
+        let board = boards::full(side, side);
         let mut best = Duration::MAX;
         for byte in 0..rounds {
             let on = memory.lend(&board);
@@ -241,7 +226,7 @@ fn main() {
     let (options, words): (Vec<String>, Vec<String>) = std::env::args().skip(1).partition(|word| word.starts_with("--"));
     let rounds = words.first().map_or(10, |rounds| rounds.parse().expect("the number of rounds"));
     if options.iter().any(|option| option == "--peers") {
-        let boards = BOARDS.iter().flat_map(|&name| SIDES.map(|side| (name, board(name, side))));
+        let boards = boards::BENCHMARK.iter().flat_map(|&name| SIDES.map(|side| (name, boards::benchmark(name, side))));
         return peers::compare(rounds, boards);
     }
     if options.iter().any(|option| option == "--memory") {
@@ -250,7 +235,7 @@ fn main() {
     let alone = words.get(1);
     let mut lines = Vec::new();
     for what in WHATS.iter().filter(|what| alone.is_none_or(|alone| alone == what.name)) {
-        for name in BOARDS {
+        for name in boards::BENCHMARK {
             lines.extend(SIDES.map(|side| Line::new(what, name, side)));
         }
     }

@@ -6,8 +6,11 @@ use std::fmt;
 /// A sheet with its sides.
 #[derive(Clone)]
 pub struct Board {
+    /// How many columns the sheet has.
     pub w: usize,
+    /// How many rows it has.
     pub h: usize,
+    /// A byte a pixel, in rows from the top.
     pub sheet: Vec<u8>,
 }
 
@@ -29,6 +32,18 @@ impl Board {
     /// The sides as a call takes them.
     pub fn sides(&self) -> (u16, u16) {
         (self.w as u16, self.h as u16)
+    }
+
+    /// The copper pixels, in rows from the top.
+    pub fn copper(&self) -> Vec<(u16, u16)> {
+        let copper = (0..self.sheet.len()).filter(|&at| self.sheet[at] != 0);
+        copper.map(|at| ((at % self.w) as u16, (at / self.w) as u16)).collect()
+    }
+
+    /// A board with copper where this one is bare. Its bytes are anything but 0.
+    pub fn turned_round(&self, random: &mut Random) -> Board {
+        let sheet = self.sheet.iter().map(|&byte| if byte == 0 { 1 + random.below(255) as u8 } else { 0 }).collect();
+        Board { sheet, ..*self }
     }
 
     /// Writes copper in a square of `2 × reach + 1` pixels around (x, y), as far as it lies on the sheet.
@@ -59,9 +74,95 @@ pub fn document_01() -> Board {
     Board::with(4, 4, &[(3, 0), (0, 3), (2, 2)])
 }
 
+/// Three pixels in a row, copper at the first (M5).
+pub fn m5() -> Board {
+    Board::with(3, 1, &[(0, 0)])
+}
+
+/// Three pixels in a row, copper at both ends (M6).
+pub fn m6() -> Board {
+    Board::with(3, 1, &[(0, 0), (2, 0)])
+}
+
+/// Five pixels in a row, copper at both ends (M7).
+pub fn m7() -> Board {
+    Board::with(5, 1, &[(0, 0), (4, 0)])
+}
+
 /// Three copper pixels around which 8SED misses the nearest: it has 485 at pixel (3, 10), and true is 481.
 pub fn arrow_head() -> Board {
     Board::with(27, 25, &[(20, 24), (25, 9), (23, 19)])
+}
+
+/// The arrow head turned and mirrored in all eight ways.
+pub fn arrow_heads() -> [Board; 8] {
+    let head = arrow_head();
+    std::array::from_fn(|way| {
+        let turn = |(x, y): (u16, u16)| {
+            let (x, y) = (usize::from(x), usize::from(y));
+            let (x, y) = (if way & 1 == 0 { x } else { head.w - 1 - x }, if way & 2 == 0 { y } else { head.h - 1 - y });
+            if way & 4 == 0 {
+                (x, y)
+            } else {
+                (y, x)
+            }
+        };
+        let (w, h) = if way & 4 == 0 { (head.w, head.h) } else { (head.h, head.w) };
+        let copper: Vec<(usize, usize)> = head.copper().into_iter().map(turn).collect();
+        Board::with(w, h, &copper)
+    })
+}
+
+/// A board with three copper pixels, of which a quick map may miss the one that is nearest to a fourth pixel: on either side of it is
+/// another, which is little farther. Where the sheet has no room for them it is bare.
+pub fn arrow(w: usize, h: usize, random: &mut Random) -> Board {
+    for _ in 0..10 {
+        let (x, y) = (random.between(0, w - 1), random.between(0, h - 1));
+        // the quadrant that has more room
+        let (left, up) = (x > w - 1 - x, y > h - 1 - y);
+        let (across, along) = (x.max(w - 1 - x), y.max(h - 1 - y));
+        let (right, down) = (random.between(0, across), random.between(0, along));
+        let size = right * right + down * down;
+        let most = size + 1 + [size / 50, size / 6, size][random.below(3) as usize];
+        let ways = (0..=across).flat_map(|right| (0..=along).map(move |down| (right, down)));
+        let farther: Vec<_> = ways.filter(|(right, down)| (size + 1..=most).contains(&(right * right + down * down))).collect();
+        let (clockwise, other): (Vec<_>, Vec<_>) = farther.into_iter().partition(|way| way.0 * down < way.1 * right);
+        if clockwise.is_empty() || other.is_empty() {
+            continue;
+        }
+        let pick = |ways: &[(usize, usize)], random: &mut Random| ways[random.between(0, ways.len() - 1)];
+        let place = |(right, down): (usize, usize)| (if left { x - right } else { x + right }, if up { y - down } else { y + down });
+        return Board::with(w, h, &[place((right, down)), place(pick(&clockwise, random)), place(pick(&other, random))]);
+    }
+    Board::bare(w, h)
+}
+
+/// Every board of `w` × `h` pixels with three copper pixels.
+pub fn of_three(w: usize, h: usize) -> impl Iterator<Item = Board> {
+    let place = move |at: usize| (at % w, at / w);
+    let pairs = (0..w * h).flat_map(|first| (0..first).map(move |second| (first, second)));
+    pairs.flat_map(move |(first, second)| (0..second).map(move |third| Board::with(w, h, &[first, second, third].map(place))))
+}
+
+/// Every board of up to so many pixels.
+pub fn all_tiny(most: usize) -> impl Iterator<Item = Board> {
+    let sides = (1..=most).flat_map(move |w| (1..=most / w).map(move |h| (w, h)));
+    sides.flat_map(|(w, h)| (0..1_u32 << (w * h)).map(move |copper| drawn(w, h, |x, y| copper >> (y * w + x) & 1 == 1)))
+}
+
+/// A copper pixel in each corner and one near the middle.
+pub fn corners_and_middle(w: usize, h: usize) -> Board {
+    Board::with(w, h, &[(0, 0), (w - 1, 0), (0, h - 1), (w - 1, h - 1), (w / 2 - 1, h / 2 - 1)])
+}
+
+/// A copper pixel in the middle of each side.
+pub fn middles_of_sides(w: usize, h: usize) -> Board {
+    Board::with(w, h, &[(w / 2, 0), (0, h / 2), (w - 1, h / 2), (w / 2, h - 1)])
+}
+
+/// Three copper pixels, apart.
+pub fn three_pixels(w: usize, h: usize) -> Board {
+    Board::with(w, h, &[(w / 5, h / 3), (w / 2, h / 7), (w - 9, h - 2)])
 }
 
 /// A single copper pixel, in the middle.
@@ -118,6 +219,15 @@ pub fn tracks(w: usize, h: usize, random: &mut Random) -> Board {
     board
 }
 
+/// So many copper pixels anywhere, of which some may be the same. The bytes are anything but 0.
+pub fn sprinkled(w: usize, h: usize, copper: usize, random: &mut Random) -> Board {
+    let mut board = Board::bare(w, h);
+    for _ in 0..copper {
+        board.sheet[random.between(0, w * h - 1)] = 1 + random.below(255) as u8;
+    }
+    board
+}
+
 /// Copper anywhere: none, everywhere, a few pixels, a few in a thousand, or any part.
 pub fn scattered(w: usize, h: usize, random: &mut Random) -> Board {
     let per_mille = match random.below(8) {
@@ -125,14 +235,16 @@ pub fn scattered(w: usize, h: usize, random: &mut Random) -> Board {
         1 | 2 => random.below(1_001),
         3 | 4 => random.below(80),
         _ => {
-            let mut board = Board::bare(w, h);
-            for _ in 0..1 + random.below(5) {
-                board.sheet[random.below((w * h) as u64) as usize] = 1 + random.below(255) as u8;
-            }
-            return board;
+            let copper = random.between(1, 5);
+            return sprinkled(w, h, copper, random);
         }
     };
     self::random(w, h, per_mille, random)
+}
+
+/// Any board: copper anywhere, or a pattern.
+pub fn any(w: usize, h: usize, random: &mut Random) -> Board {
+    [scattered, patterned][random.below(2) as usize](w, h, random)
 }
 
 /// A pattern on which many pixels have several nearest copper pixels.
@@ -164,5 +276,22 @@ pub fn patterned(w: usize, h: usize, random: &mut Random) -> Board {
             }
             board
         }
+    }
+}
+
+/// The names of the benchmark's boards.
+pub const BENCHMARK: [&str; 7] = ["one pixel", "3 pixels", "1 % random", "50 % random", "tracks", "diagonal", "full"];
+
+/// The board of the benchmark that has a name, with sides of the given length; that of an unknown name is all copper.
+pub fn benchmark(name: &str, side: usize) -> Board {
+    let mut random = Random::new(31);
+    match name {
+        "one pixel" => one_pixel(side, side),
+        "3 pixels" => three_pixels(side, side),
+        "1 % random" => self::random(side, side, 10, &mut random),
+        "50 % random" => self::random(side, side, 500, &mut random),
+        "tracks" => tracks(side, side, &mut random),
+        "diagonal" => diagonal(side, side),
+        _ => full(side, side),
     }
 }

@@ -74,13 +74,13 @@ pub fn rebuild(map: &[[i16; 2]], marks: &[u8], w: usize, h: usize) -> Vec<u8> {
 #[cfg(test)]
 mod tests {
     use super::*;
-    use crate::boards::{self, Board};
+    use crate::boards;
     use crate::exact;
     use crate::random::Random;
 
     #[test]
     fn m7() {
-        let board = Board::with(5, 1, &[(0, 0), (4, 0)]);
+        let board = boards::m7();
         let map = exact::exact(&board.sheet, 5, 1);
         let marks = skeleton(&map, 5, 1);
         assert_eq!(marks, [0, 0, 1, 0, 0]);
@@ -129,9 +129,9 @@ mod tests {
     #[test]
     fn covers_the_bare() {
         let mut random = Random::new(62);
-        for turn in 0..3_000 {
+        for _ in 0..3_000 {
             let (w, h) = (random.between(1, 12), random.between(1, 12));
-            let mut board = if turn % 2 == 0 { boards::patterned(w, h, &mut random) } else { boards::scattered(w, h, &mut random) };
+            let mut board = boards::any(w, h, &mut random);
             board.sheet[random.between(0, w * h - 1)] = 1;
             let map = exact::exact(&board.sheet, w, h);
             let bare: Vec<u8> = board.sheet.iter().map(|&byte| u8::from(byte == 0)).collect();
