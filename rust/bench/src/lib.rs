@@ -10,10 +10,12 @@ pub mod plain_skeleton;
 #[cfg(test)]
 mod tests {
     use super::*;
-    use abi::session::{Reply, Session};
+    use abi::session::Reply;
     use model::boards::{self, Board};
+    use model::calls::Calls;
     use model::random::Random;
     use model::session::Fields;
+    use soak::library::Library;
 
     type Scan = fn(&[u8], &mut [i16], usize, usize, bool) -> bool;
 
@@ -92,8 +94,7 @@ mod tests {
                 1 => (random.between(1, 300), 1),
                 _ => (random.between(1, 12), random.between(1, 12)),
             };
-            let kind = [boards::scattered, boards::patterned][random.below(2) as usize];
-            let board = kind(w, h, &mut random);
+            let board = boards::any(w, h, &mut random);
             check(&board, &mut random);
         }
         check(&boards::arrow_head(), &mut random);
@@ -126,7 +127,7 @@ mod tests {
     fn check_calls(board: &Board, random: &mut Random) {
         for _ in 0..4 {
             let fields = any_session(board, random);
-            let session = library_session(fields);
+            let session = Library::from(fields).0;
             let mut length = |right: usize| if random.below(6) == 0 { right + 1 - 2 * random.below(2) as usize } else { right };
             let pixels = board.sheet.len();
             let mut sheet = board.sheet.clone();
@@ -153,7 +154,7 @@ mod tests {
                     3 => plain_calls::expand(session, &mut sheet, &mut map, &mut scratch, q),
                     _ => plain_calls::shrink(session, &mut sheet, &mut map, &mut scratch, q),
                 };
-                assert_eq!(reply, Reply { answer, session: library_session(after) }, "call {which} with {fields:?}: {board:?}");
+                assert_eq!(reply, Reply { answer, session: Library::from(after).0 }, "call {which} with {fields:?}: {board:?}");
                 assert!((&sheet, &map, &scratch, &out) == (&expected.0, &expected.1, &expected.2, &expected.3), "call {which}: {board:?}");
             }
         }
@@ -172,12 +173,6 @@ mod tests {
             _ => {}
         }
         fields
-    }
-
-    /// The session in the library's own type.
-    fn library_session(fields: Fields) -> Session {
-        let Fields { opened, width, height, current, engine, lowered, x, y, q } = fields;
-        Session { opened, width, height, current, engine, lowered, x, y, q }
     }
 
     #[test]

@@ -1,5 +1,6 @@
 //! Job files, and what the program `mill` prints of one.
 
+use crate::calls::Calls;
 use crate::session::Fields;
 
 /// The most pixels of a sheet of `mill`.

@@ -1,10 +1,10 @@
 //! The session, for any fields, any numbers and slices of any length: each call writes what the slices hold afterwards, and returns its
 //! answer and the session.
 
+use crate::calls::Calls;
 use crate::scans::{self, UNLABELLED};
 use crate::skeleton::{self, size};
 use crate::{exact, resize};
-use std::ops::Range;
 
 /// The longest side of a sheet.
 const MAX_SIDE: u16 = 2_048;
@@ -180,24 +180,6 @@ impl Fields {
         self.read().is_none()
     }
 
-    pub fn open(self, sheet: &mut [u8], w: u16, h: u16) -> (u32, Fields) {
-        let open = Open { w, h, map: None };
-        let answer = answer(&[(11, !open.within_limits()), (12, sheet.len() != open.pixels())]);
-        if answer != 0 {
-            return (answer, self);
-        }
-        sheet.fill(0);
-        (0, Fields::of(Some(open)))
-    }
-
-    pub fn paint(self, sheet: &mut [u8], x: u16, y: u16, w: u16, h: u16) -> (u32, Fields) {
-        self.fill(sheet, [x, y, w, h], 1)
-    }
-
-    pub fn erase(self, sheet: &mut [u8], x: u16, y: u16, w: u16, h: u16) -> (u32, Fields) {
-        self.fill(sheet, [x, y, w, h], 0)
-    }
-
     /// Writes a byte in a rectangle.
     fn fill(self, sheet: &mut [u8], rectangle: [u16; 4], byte: u8) -> (u32, Fields) {
         let Some(open) = self.read() else { return (30, self) };
@@ -214,71 +196,6 @@ impl Fields {
             }
         }
         (0, Fields::of(Some(open.stale())))
-    }
-
-    pub fn build(self, sheet: &[u8], map: &mut [i16], scratch: &mut [i16], engine: u16) -> (u32, Fields) {
-        let Some(open) = self.read() else { return (30, self) };
-        let pixels = open.pixels();
-        let engine = Engine::numbered(engine);
-        let short = engine == Some(Engine::Exact) && scratch.len() < pixels;
-        let answer = answer(&[(12, sheet.len() != pixels || map.len() != 2 * pixels || short), (14, engine.is_none())]);
-        let Some(engine) = engine.filter(|_| answer == 0) else { return (answer, self) };
-        map.copy_from_slice(engine.map(sheet, open.w.into(), open.h.into()).as_flattened());
-        if engine == Engine::Exact {
-            scratch[..pixels].fill(0);
-        }
-        (0, Fields::of(Some(Open { map: Some(Current { engine, cutter: None }), ..open })))
-    }
-
-    pub fn place(self, map: &[i16], x: u16, y: u16, q: u32) -> (u32, Fields) {
-        let Some(open) = self.read() else { return (30, self) };
-        let pixel = (x.into(), y.into());
-        let answer = answer(&[
-            (12, map.len() != 2 * open.pixels()),
-            (15, q > MAX_Q),
-            (16, !open.holds(pixel.0, pixel.1)),
-            (31, open.map.is_none()),
-            (34, open.fails(map, pixel, q)),
-        ]);
-        if answer != 0 {
-            return (answer, self);
-        }
-        (0, Fields::of(Some(open.with(Some(Cutter { x, y, q })))))
-    }
-
-    pub fn run(self, map: &[i16], direction: u16, count: u16) -> (u32, Fields) {
-        let Some(open) = self.read() else { return (30, self) };
-        let step = DIRECTIONS.get(usize::from(direction));
-        // the pixels after the start; there are none without a cutter or a direction
-        let path: Vec<(i64, i64)> = match (open.cutter(), step) {
-            (Some(start), Some((right, down))) => {
-                let after = |steps: i64| (i64::from(start.x) + steps * right, i64::from(start.y) + steps * down);
-                (1..=i64::from(count)).map(after).collect()
-            }
-            _ => Vec::new(),
-        };
-        let q = open.cutter().map_or(0, |cutter| cutter.q);
-        let answer = answer(&[
-            (12, map.len() != 2 * open.pixels()),
-            (17, step.is_none() || !(1..=MAX_COUNT).contains(&count)),
-            (32, open.cutter().is_none()),
-            (33, path.iter().any(|&(x, y)| !open.holds(x, y))),
-            (34, path.iter().any(|&pixel| open.fails(map, pixel, q))),
-        ]);
-        let Some(&(x, y)) = path.last().filter(|_| answer == 0) else { return (answer, self) };
-        (0, Fields::of(Some(open.with(Some(Cutter { x: x as u16, y: y as u16, q })))))
-    }
-
-    pub fn lift(self) -> (u32, Fields) {
-        (0, Fields::of(self.read().map(|open| open.with(None))))
-    }
-
-    pub fn expand(self, sheet: &mut [u8], map: &mut [i16], scratch: &mut [i16], q: u32) -> (u32, Fields) {
-        self.resize(sheet, map, scratch, q, resize::expand_by_map)
-    }
-
-    pub fn shrink(self, sheet: &mut [u8], map: &mut [i16], scratch: &mut [i16], q: u32) -> (u32, Fields) {
-        self.resize(sheet, map, scratch, q, resize::shrink_by_map)
     }
 
     fn resize(
@@ -300,16 +217,6 @@ impl Fields {
         map.as_chunks_mut::<2>().0.fill(UNLABELLED);
         scratch[..pixels].fill(0);
         (0, Fields::of(Some(open.stale())))
-    }
-
-    pub fn skeleton(self, map: &[i16], out: &mut [u8]) -> (u32, Fields) {
-        let pixels = out.len();
-        self.read_map(map, out, &[pixels], skeleton::skeleton)
-    }
-
-    pub fn rebuild(self, map: &[i16], marks: &[u8], out: &mut [u8]) -> (u32, Fields) {
-        let pixels = out.len();
-        self.read_map(map, out, &[pixels, marks.len()], |map, w, h| skeleton::rebuild(map, marks, w, h))
     }
 
     /// Skeleton and rebuild: out takes what is drawn from the map. The lengths are those of the slices with a byte a pixel.
@@ -334,152 +241,113 @@ impl Fields {
         }
         (answer, self)
     }
+}
 
-    /// Where in the map row y stands, or an empty range.
-    pub fn map_row(self, map: &[i16], y: u16) -> Range<usize> {
+impl Calls for Fields {
+    fn fresh() -> Self {
+        Fields::FRESH
+    }
+
+    fn open(self, sheet: &mut [u8], w: u16, h: u16) -> (u32, Fields) {
+        let open = Open { w, h, map: None };
+        let answer = answer(&[(11, !open.within_limits()), (12, sheet.len() != open.pixels())]);
+        if answer != 0 {
+            return (answer, self);
+        }
+        sheet.fill(0);
+        (0, Fields::of(Some(open)))
+    }
+
+    fn paint(self, sheet: &mut [u8], x: u16, y: u16, w: u16, h: u16) -> (u32, Fields) {
+        self.fill(sheet, [x, y, w, h], 1)
+    }
+
+    fn erase(self, sheet: &mut [u8], x: u16, y: u16, w: u16, h: u16) -> (u32, Fields) {
+        self.fill(sheet, [x, y, w, h], 0)
+    }
+
+    fn build(self, sheet: &[u8], map: &mut [i16], scratch: &mut [i16], engine: u16) -> (u32, Fields) {
+        let Some(open) = self.read() else { return (30, self) };
+        let pixels = open.pixels();
+        let engine = Engine::numbered(engine);
+        let short = engine == Some(Engine::Exact) && scratch.len() < pixels;
+        let answer = answer(&[(12, sheet.len() != pixels || map.len() != 2 * pixels || short), (14, engine.is_none())]);
+        let Some(engine) = engine.filter(|_| answer == 0) else { return (answer, self) };
+        map.copy_from_slice(engine.map(sheet, open.w.into(), open.h.into()).as_flattened());
+        if engine == Engine::Exact {
+            scratch[..pixels].fill(0);
+        }
+        (0, Fields::of(Some(Open { map: Some(Current { engine, cutter: None }), ..open })))
+    }
+
+    fn place(self, map: &[i16], x: u16, y: u16, q: u32) -> (u32, Fields) {
+        let Some(open) = self.read() else { return (30, self) };
+        let pixel = (x.into(), y.into());
+        let answer = answer(&[
+            (12, map.len() != 2 * open.pixels()),
+            (15, q > MAX_Q),
+            (16, !open.holds(pixel.0, pixel.1)),
+            (31, open.map.is_none()),
+            (34, open.fails(map, pixel, q)),
+        ]);
+        if answer != 0 {
+            return (answer, self);
+        }
+        (0, Fields::of(Some(open.with(Some(Cutter { x, y, q })))))
+    }
+
+    fn run(self, map: &[i16], direction: u16, count: u16) -> (u32, Fields) {
+        let Some(open) = self.read() else { return (30, self) };
+        let step = DIRECTIONS.get(usize::from(direction));
+        // the pixels after the start; there are none without a cutter or a direction
+        let path: Vec<(i64, i64)> = match (open.cutter(), step) {
+            (Some(start), Some((right, down))) => {
+                let after = |steps: i64| (i64::from(start.x) + steps * right, i64::from(start.y) + steps * down);
+                (1..=i64::from(count)).map(after).collect()
+            }
+            _ => Vec::new(),
+        };
+        let q = open.cutter().map_or(0, |cutter| cutter.q);
+        let answer = answer(&[
+            (12, map.len() != 2 * open.pixels()),
+            (17, step.is_none() || !(1..=MAX_COUNT).contains(&count)),
+            (32, open.cutter().is_none()),
+            (33, path.iter().any(|&(x, y)| !open.holds(x, y))),
+            (34, path.iter().any(|&pixel| open.fails(map, pixel, q))),
+        ]);
+        let Some(&(x, y)) = path.last().filter(|_| answer == 0) else { return (answer, self) };
+        (0, Fields::of(Some(open.with(Some(Cutter { x: x as u16, y: y as u16, q })))))
+    }
+
+    fn lift(self) -> (u32, Fields) {
+        (0, Fields::of(self.read().map(|open| open.with(None))))
+    }
+
+    fn expand(self, sheet: &mut [u8], map: &mut [i16], scratch: &mut [i16], q: u32) -> (u32, Fields) {
+        self.resize(sheet, map, scratch, q, resize::expand_by_map)
+    }
+
+    fn shrink(self, sheet: &mut [u8], map: &mut [i16], scratch: &mut [i16], q: u32) -> (u32, Fields) {
+        self.resize(sheet, map, scratch, q, resize::shrink_by_map)
+    }
+
+    fn skeleton(self, map: &[i16], out: &mut [u8]) -> (u32, Fields) {
+        let pixels = out.len();
+        self.read_map(map, out, &[pixels], skeleton::skeleton)
+    }
+
+    fn rebuild(self, map: &[i16], marks: &[u8], out: &mut [u8]) -> (u32, Fields) {
+        let pixels = out.len();
+        self.read_map(map, out, &[pixels, marks.len()], |map, w, h| skeleton::rebuild(map, marks, w, h))
+    }
+
+    fn map_row(self, map: &[i16], y: u16) -> &[i16] {
         match self.read() {
             Some(open) if y < open.h && map.len() == 2 * open.pixels() => {
                 let row = 2 * usize::from(open.w);
-                usize::from(y) * row..usize::from(y) * row + row
+                &map[usize::from(y) * row..][..row]
             }
-            _ => 0..0,
+            _ => &map[..0],
         }
-    }
-}
-
-#[cfg(test)]
-mod tests {
-    use super::*;
-    use crate::boards;
-
-    /// A session with the sheet of a board and its map by an engine.
-    fn built(w: u16, h: u16, copper: &[(u16, u16)], engine: u16) -> (Fields, Vec<i16>) {
-        let pixels = usize::from(w) * usize::from(h);
-        let (mut sheet, mut map, mut scratch) = (vec![9; pixels], vec![9; 2 * pixels], vec![9; pixels + 1]);
-        let (mut answer, mut session) = Fields::FRESH.open(&mut sheet, w, h);
-        for &(x, y) in copper {
-            assert_eq!(answer, 0);
-            (answer, session) = session.paint(&mut sheet, x, y, 1, 1);
-        }
-        assert_eq!(answer, 0);
-        (answer, session) = session.build(&sheet, &mut map, &mut scratch, engine);
-        assert_eq!(answer, 0);
-        let cleared = scratch[..pixels].iter().all(|&number| number == 0);
-        assert!(cleared == (engine == 1) && scratch[pixels] == 9);
-        (session, map)
-    }
-
-    const M1: [(u16, u16); 3] = [(3, 0), (0, 3), (2, 2)];
-
-    /// The largest q that passes at the upper left corner is M2, M3, M4.
-    #[test]
-    fn m1_to_m4() {
-        for (engine, way, most) in [(1, [2, 2], 7), (2, [2, 2], 6), (3, [3, 0], 4)] {
-            let (session, map) = built(4, 4, &M1, engine);
-            assert_eq!(map[..2], way);
-            assert_eq!(session.place(&map, 0, 0, most + 1), (34, session));
-            assert_eq!(session.place(&map, 0, 0, most), (0, Fields { lowered: true, q: most, ..session }));
-        }
-    }
-
-    #[test]
-    fn m5_and_m6() {
-        for engine in 1..=3 {
-            assert_eq!(built(3, 1, &[(0, 0)], engine).1, [0, 0, -1, 0, -2, 0]);
-        }
-        assert_eq!(built(3, 1, &[(0, 0), (2, 0)], 1).1, [0, 0, -1, 0, 0, 0]);
-    }
-
-    #[test]
-    fn m7() {
-        let (session, map) = built(5, 1, &[(0, 0), (4, 0)], 1);
-        let (mut kept, mut bare) = ([9; 5], [9; 5]);
-        assert_eq!(session.skeleton(&map, &mut kept), (0, session));
-        assert_eq!(session.rebuild(&map, &kept, &mut bare), (0, session));
-        assert_eq!((kept, bare), ([0, 0, 1, 0, 0], [0, 1, 1, 1, 0]));
-    }
-
-    #[test]
-    fn job() {
-        let (session, map) = built(4, 4, &M1, 3);
-        assert_eq!(session.place(&map, 0, 0, 5).0, 34);
-        let (answer, down) = session.place(&map, 0, 0, 4);
-        assert_eq!((answer, down.run(&map, 0, 1)), (0, (34, down)));
-        assert_eq!(down.lift(), (0, session));
-    }
-
-    #[test]
-    fn limits() {
-        let mut sheet = vec![1; 2_049];
-        assert_eq!(Fields::FRESH.open(&mut sheet, 2_049, 1), (11, Fields::FRESH));
-        assert_eq!(Fields::FRESH.open(&mut sheet, 2_048, 1), (12, Fields::FRESH));
-        assert!(sheet.iter().all(|&byte| byte == 1));
-        assert_eq!(Fields::FRESH.open(&mut sheet[..2_048], 2_048, 1).0, 0);
-        let (session, map) = built(2_048, 1, &[], 2);
-        assert_eq!(session.place(&map, 0, 0, 4_194_305), (15, session));
-        let (answer, down) = session.place(&map, 0, 0, 4_194_304);
-        assert_eq!((answer, down.run(&map, 0, 2_048)), (0, (17, down)));
-        assert_eq!(down.run(&map, 0, 2_047), (0, Fields { x: 2_047, ..down }));
-        assert_eq!(down.run(&map, 1, 1), (33, down));
-    }
-
-    /// Every refused field makes the session count as nothing open, and lift makes it a fresh one.
-    #[test]
-    fn no_call_could_hand_back() {
-        let (session, map) = built(4, 4, &M1, 3);
-        let stale = Fields { current: false, engine: 0, ..session };
-        let down = session.place(&map, 0, 0, 4).1;
-        assert!([session, stale, down].iter().all(|session| !session.closed()));
-        let wrong = [
-            Fields { width: 0, ..session },
-            Fields { height: 2_049, ..session },
-            Fields { opened: false, ..session },
-            Fields { engine: 0, ..session },
-            Fields { engine: 4, ..session },
-            Fields { current: false, ..session },
-            Fields { q: 1, ..session },
-            Fields { y: 1, ..stale },
-            Fields { lowered: true, ..stale },
-            Fields { engine: 1, ..stale },
-            Fields { x: 4, ..down },
-            Fields { q: 4_194_305, ..down },
-            Fields { lowered: false, ..down },
-            Fields { q: 1, ..Fields::FRESH },
-            Fields { width: 4, height: 4, ..Fields::FRESH },
-            Fields { lowered: true, ..Fields::FRESH },
-            Fields { opened: true, ..Fields::FRESH },
-        ];
-        for session in wrong {
-            assert!(session.closed(), "{session:?}");
-            assert_eq!(session.place(&map, 0, 0, 4), (30, session));
-            assert_eq!(session.map_row(&map, 0), 0..0);
-            assert_eq!(session.lift(), (0, Fields::FRESH));
-            assert_eq!(session.open(&mut [1, 1], 2, 1), Fields::FRESH.open(&mut [1, 1], 2, 1));
-        }
-    }
-
-    /// Half marked pixels are labelled, and their size is taken as it comes.
-    #[test]
-    fn any_map() {
-        let session = built(2, 1, &[], 2).0;
-        assert_eq!(session.place(&[-32_768; 4], 0, 0, 4_194_304).0, 0);
-        assert_eq!(session.place(&[-32_768, 0, 0, 0], 0, 0, 4_194_304).0, 0);
-        assert_eq!(session.place(&[0, 0, -32_768, 0], 0, 0, 0).0, 34);
-    }
-
-    #[test]
-    fn expand_and_shrink() {
-        let board = boards::document_01();
-        let (session, mut map) = built(4, 4, &M1, 3);
-        let mut sheet = board.sheet.clone();
-        let mut scratch = vec![9; 17];
-        let (answer, after) = session.place(&map, 0, 0, 4).1.expand(&mut sheet, &mut map, &mut scratch, 2);
-        assert_eq!((answer, after), (0, Fields { current: false, engine: 0, ..session }));
-        assert_eq!(sheet, [0, 0, 1, 1, 0, 1, 1, 1, 1, 1, 1, 1, 1, 1, 1, 1]);
-        assert!(map.iter().all(|&number| number == -32_768) && scratch[..16] == [0; 16] && scratch[16] == 9);
-        assert_eq!(after.shrink(&mut sheet, &mut map, &mut scratch, 4_194_305), (15, after));
-        assert_eq!(after.shrink(&mut sheet, &mut map, &mut scratch[..15], 0), (12, after));
-        assert_eq!(after.shrink(&mut sheet, &mut map, &mut scratch, 2), (0, after));
-        assert_eq!(sheet, [0, 0, 0, 1, 0, 0, 0, 1, 0, 0, 1, 1, 1, 1, 1, 1]);
     }
 }

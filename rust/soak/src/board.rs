@@ -2,7 +2,7 @@
 //! distances are by brute force.
 
 use crate::calls::Call;
-use abi::session::Session;
+use model::session::Fields;
 use std::collections::BTreeSet;
 use std::fmt::Debug;
 
@@ -82,7 +82,7 @@ impl Board {
     /// Feeds the board a call and its answer, and asserts what is promised of every call of a list: a cutter that is brought down or run
     /// comes to no pixel with copper within q; one that is turned away with 34 had a pixel with copper within q, or on the quick maps
     /// within the engine's fraction of it; session and sheet agree with the board.
-    pub fn feed(&mut self, call: Call, answer: u32, session: &Session, sheet: &[u8], about: &impl Debug) {
+    pub fn feed(&mut self, call: Call, answer: u32, session: &Fields, sheet: &[u8], about: &impl Debug) {
         let tested = self.tested(call);
         let on_sheet = |(x, y): Pixel| (0..self.w.into()).contains(&x) && (0..self.h.into()).contains(&y);
         let all_on_sheet = tested.iter().all(|&(pixel, _)| on_sheet(pixel));
@@ -109,7 +109,7 @@ impl Board {
     }
 
     /// Asserts that session and sheet agree with the board, and that a lowered cutter stands clear of copper.
-    fn agrees(&self, session: &Session, sheet: &[u8], about: &impl Debug) {
+    fn agrees(&self, session: &Fields, sheet: &[u8], about: &impl Debug) {
         assert_eq!((session.width, session.height, session.engine), (self.w, self.h, self.engine), "sides and engine: {about:?}");
         assert_eq!((session.opened, session.current), (self.w != 0, self.engine != 0), "open and current: {about:?}");
         let cutter = session.lowered.then_some(((session.x.into(), session.y.into()), session.q));

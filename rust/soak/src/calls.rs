@@ -1,53 +1,74 @@
-//! The calls of the session as values, made of the library or of the model.
+//! The calls of the session as values, made of any session: the library's or the model's.
 
 use crate::lent::Lent;
-use abi::session::{Reply, Session};
+use model::calls::Calls;
 use model::random::Random;
-use model::session::Fields;
 use std::fmt::Debug;
 
 /// A call with its numbers.
 #[derive(Clone, Copy, Debug, PartialEq, Eq)]
 pub enum Call {
+    /// Opens a sheet.
     Open { w: u16, h: u16 },
+    /// Paints a rectangle.
     Paint { x: u16, y: u16, w: u16, h: u16 },
+    /// Erases a rectangle.
     Erase { x: u16, y: u16, w: u16, h: u16 },
+    /// Builds the map.
     Build { engine: u16 },
+    /// Brings the cutter down.
     Place { x: u16, y: u16, q: u32 },
+    /// Runs the lowered cutter.
     Run { direction: u16, count: u16 },
+    /// Lifts the cutter.
     Lift,
+    /// Expands the copper.
     Expand { q: u32 },
+    /// Shrinks the copper.
     Shrink { q: u32 },
+    /// Writes the skeleton of the map.
     Skeleton,
+    /// Writes what marked pixels cover.
     Rebuild,
 }
 
 /// The slices of a call. Each kind of call is lent some of them.
 #[derive(Clone, PartialEq, Eq)]
 pub struct Slices {
+    /// The sheet, a byte a pixel.
     pub sheet: Vec<u8>,
+    /// The map, two numbers a pixel.
     pub map: Vec<i16>,
+    /// What exact works in.
     pub scratch: Vec<i16>,
+    /// The marked pixels that rebuild reads.
     pub marks: Vec<u8>,
+    /// What skeleton and rebuild write.
     pub out: Vec<u8>,
+}
+
+/// The slices of a call while they are lent.
+pub struct Lending<'a> {
+    sheet: &'a mut [u8],
+    map: &'a mut [i16],
+    scratch: &'a mut [i16],
+    marks: &'a mut [u8],
+    out: &'a mut [u8],
+}
+
+impl Slices {
+    /// Lends all of them.
+    pub fn lend(&mut self) -> Lending<'_> {
+        let Slices { sheet, map, scratch, marks, out } = self;
+        Lending { sheet, map, scratch, marks, out }
+    }
 }
 
 /// How many numbers around a lent slice must stay as they are.
 const MARGIN: usize = 40;
 
-/// The session in the model's own type.
-pub fn fields(session: Session) -> Fields {
-    let Session { opened, width, height, current, engine, lowered, x, y, q } = session;
-    Fields { opened, width, height, current, engine, lowered, x, y, q }
-}
-
-/// The session in the library's own type.
-fn session_of(fields: Fields) -> Session {
-    let Fields { opened, width, height, current, engine, lowered, x, y, q } = fields;
-    Session { opened, width, height, current, engine, lowered, x, y, q }
-}
-
 impl Call {
+    /// The name of its kind.
     pub fn name(self) -> &'static str {
         match self {
             Call::Open { .. } => "open",
@@ -64,52 +85,39 @@ impl Call {
         }
     }
 
-    /// Makes the call of the library. The slices hold afterwards what it left in them; the margins around them must be as they were.
-    pub fn of_library(self, session: Session, slices: &mut Slices, random: &mut Random, about: &impl Debug) -> Reply {
+    /// Makes the call of a session with these slices.
+    pub fn make<S: Calls>(self, session: S, slices: Lending) -> (u32, S) {
+        let Lending { sheet, map, scratch, marks, out } = slices;
+        match self {
+            Call::Open { w, h } => session.open(sheet, w, h),
+            Call::Paint { x, y, w, h } => session.paint(sheet, x, y, w, h),
+            Call::Erase { x, y, w, h } => session.erase(sheet, x, y, w, h),
+            Call::Build { engine } => session.build(sheet, map, scratch, engine),
+            Call::Place { x, y, q } => session.place(map, x, y, q),
+            Call::Run { direction, count } => session.run(map, direction, count),
+            Call::Lift => session.lift(),
+            Call::Expand { q } => session.expand(sheet, map, scratch, q),
+            Call::Shrink { q } => session.shrink(sheet, map, scratch, q),
+            Call::Skeleton => session.skeleton(map, out),
+            Call::Rebuild => session.rebuild(map, marks, out),
+        }
+    }
+
+    /// Makes the call with margins around the slices, which must be as they were afterwards. The slices hold what the call left in them.
+    pub fn make_within<S: Calls>(self, session: S, slices: &mut Slices, random: &mut Random, about: &impl Debug) -> (u32, S) {
         let mut sheet = Lent::around(&slices.sheet, MARGIN, || random.next() as u8);
         let mut map = Lent::around(&slices.map, MARGIN, || random.next() as i16);
         let mut scratch = Lent::around(&slices.scratch, MARGIN, || random.next() as i16);
         let mut marks = Lent::around(&slices.marks, MARGIN, || random.next() as u8);
         let mut out = Lent::around(&slices.out, MARGIN, || random.next() as u8);
-        let reply = match self {
-            Call::Open { w, h } => session.open(sheet.slice(), w, h),
-            Call::Paint { x, y, w, h } => session.paint(sheet.slice(), x, y, w, h),
-            Call::Erase { x, y, w, h } => session.erase(sheet.slice(), x, y, w, h),
-            Call::Build { engine } => session.build(sheet.slice(), map.slice(), scratch.slice(), engine),
-            Call::Place { x, y, q } => session.place(map.slice(), x, y, q),
-            Call::Run { direction, count } => session.run(map.slice(), direction, count),
-            Call::Lift => session.lift(),
-            Call::Expand { q } => session.expand(sheet.slice(), map.slice(), scratch.slice(), q),
-            Call::Shrink { q } => session.shrink(sheet.slice(), map.slice(), scratch.slice(), q),
-            Call::Skeleton => session.skeleton(map.slice(), out.slice()),
-            Call::Rebuild => session.rebuild(map.slice(), marks.slice(), out.slice()),
-        };
+        let lending = Lending { sheet: sheet.slice(), map: map.slice(), scratch: scratch.slice(), marks: marks.slice(), out: out.slice() };
+        let made = self.make(session, lending);
         take_back(&mut slices.sheet, &sheet, "sheet", about);
         take_back(&mut slices.map, &map, "map", about);
         take_back(&mut slices.scratch, &scratch, "scratch", about);
         take_back(&mut slices.marks, &marks, "marks", about);
         take_back(&mut slices.out, &out, "output", about);
-        reply
-    }
-
-    /// Makes the call of the model.
-    pub fn of_model(self, session: Session, slices: &mut Slices) -> Reply {
-        let Slices { sheet, map, scratch, marks, out } = slices;
-        let fields = fields(session);
-        let (answer, fields) = match self {
-            Call::Open { w, h } => fields.open(sheet, w, h),
-            Call::Paint { x, y, w, h } => fields.paint(sheet, x, y, w, h),
-            Call::Erase { x, y, w, h } => fields.erase(sheet, x, y, w, h),
-            Call::Build { engine } => fields.build(sheet, map, scratch, engine),
-            Call::Place { x, y, q } => fields.place(map, x, y, q),
-            Call::Run { direction, count } => fields.run(map, direction, count),
-            Call::Lift => fields.lift(),
-            Call::Expand { q } => fields.expand(sheet, map, scratch, q),
-            Call::Shrink { q } => fields.shrink(sheet, map, scratch, q),
-            Call::Skeleton => fields.skeleton(map, out),
-            Call::Rebuild => fields.rebuild(map, marks, out),
-        };
-        Reply { answer, session: session_of(fields) }
+        made
     }
 }
 

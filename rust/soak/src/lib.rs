@@ -1,7 +1,8 @@
-//! Lists of calls of the session: made of the library, compared with the model, and held against the claims of document 01.
+//! Lists of calls of the session: made of the library or of the model, compared with the model, and held against the claims of document 01.
 
 mod board;
 pub mod calls;
 pub mod lent;
+pub mod library;
 pub mod list;
 pub mod lists;

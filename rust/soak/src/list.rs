@@ -1,9 +1,10 @@
-//! Lists of calls, each call made of the library and checked.
+//! Lists of calls, each call made of a session and checked.
 
 use crate::board::Board;
-use crate::calls::{fields, Call, Slices};
-use abi::session::{Reply, Session};
+use crate::calls::{Call, Slices};
+use model::calls::Calls;
 use model::random::Random;
+use model::session::Fields;
 use std::collections::BTreeMap;
 use std::fmt;
 
@@ -18,10 +19,12 @@ pub enum Check {
     Both,
 }
 
-/// A list of calls so far.
-pub struct List {
-    pub session: Session,
+/// A list of calls so far, made of one kind of session.
+pub struct List<S> {
+    session: S,
+    /// The list's sheet.
     pub sheet: Vec<u8>,
+    /// The list's map.
     pub map: Vec<i16>,
     check: Check,
     board: Board,
@@ -33,16 +36,16 @@ pub struct List {
 pub type Answers = BTreeMap<u32, BTreeMap<&'static str, u64>>;
 
 /// What the message of a failed check tells: the call, the session and sheet before it, and the calls that led there.
-struct Story<'a> {
-    list: &'a List,
+struct Story<'a, S> {
+    list: &'a List<S>,
     call: Call,
     slices: &'a Slices,
 }
 
-impl fmt::Debug for Story<'_> {
+impl<S: Calls> fmt::Debug for Story<'_, S> {
     fn fmt(&self, f: &mut fmt::Formatter<'_>) -> fmt::Result {
         let Story { list, call, slices } = self;
-        writeln!(f, "{call:?} in the list of seed {}, with {:?}", list.seed, list.session)?;
+        writeln!(f, "{call:?} in the list of seed {}, with {:?}", list.seed, list.session())?;
         let Slices { sheet, map, scratch, marks, out } = slices;
         writeln!(f, "lengths {:?}", [sheet.len(), map.len(), scratch.len(), marks.len(), out.len()])?;
         if sheet.len() <= 200 {
@@ -53,18 +56,28 @@ impl fmt::Debug for Story<'_> {
 }
 
 /// Asserts that a slice holds what it should.
-fn same<T: PartialEq + fmt::Debug>(what: &str, found: &[T], expected: &[T], story: &Story) {
+fn same<T: PartialEq + fmt::Debug>(what: &str, found: &[T], expected: &[T], story: &impl fmt::Debug) {
     if let Some(at) = (0..found.len()).find(|&at| found[at] != expected[at]) {
         panic!("{what} has {:?} at {at}, not {:?}: {story:?}", found[at], expected[at]);
     }
 }
 
-impl List {
+impl<S: Calls> List<S> {
     /// A list that starts with a fresh session and a sheet and map of any length holding anything. The seed is for messages.
     pub fn new(check: Check, seed: u64, random: &mut Random) -> Self {
         let sheet = (0..random.between(0, 20)).map(|_| random.next() as u8).collect();
         let map = (0..random.between(0, 40)).map(|_| random.next() as i16).collect();
-        List { session: Session::fresh(), sheet, map, check, board: Board::default(), made: Vec::new(), seed }
+        List { session: S::fresh(), sheet, map, check, board: Board::default(), made: Vec::new(), seed }
+    }
+
+    /// What the session records.
+    pub fn session(&self) -> Fields {
+        self.session.into()
+    }
+
+    /// Goes on with another session.
+    pub fn set_session(&mut self, fields: Fields) {
+        self.session = S::from(fields);
     }
 
     /// Slices for a call: the list's sheet and map, or to open a sheet others of the right lengths, and what else the call takes, of
@@ -107,31 +120,31 @@ impl List {
         let own = !matches!(call, Call::Open { .. }) && slices.sheet == self.sheet && slices.map == self.map;
         let mut after = slices.clone();
         let story = Story { list: self, call, slices: &slices };
-        let reply = call.of_library(self.session, &mut after, random, &story);
+        let (answer, session) = call.make_within(self.session, &mut after, random, &story);
         if self.check != Check::Board {
-            self.compare(&story, reply, &after);
+            self.compare(&story, (answer, session.into()), &after);
             self.compare_row(&story, random);
         }
         if self.check != Check::Model {
             let mut board = std::mem::take(&mut self.board);
             let story = Story { list: self, call, slices: &slices };
-            let sheet = if own || reply.answer == 0 { &after.sheet } else { &self.sheet };
-            board.feed(call, reply.answer, &reply.session, sheet, &story);
+            let sheet = if own || answer == 0 { &after.sheet } else { &self.sheet };
+            board.feed(call, answer, &session.into(), sheet, &story);
             self.board = board;
         }
-        if own || reply.answer == 0 {
+        if own || answer == 0 {
             self.sheet.clone_from(&after.sheet);
             self.map.clone_from(&after.map);
         }
-        self.session = reply.session;
-        self.made.push((call, reply.answer));
-        (reply.answer, after)
+        self.session = session;
+        self.made.push((call, answer));
+        (answer, after)
     }
 
     /// Asserts that the model answers the same, and hands back the same session and slices.
-    fn compare(&self, story: &Story, reply: Reply, after: &Slices) {
+    fn compare(&self, story: &Story<S>, found: (u32, Fields), after: &Slices) {
         let mut expected = story.slices.clone();
-        assert_eq!(reply, story.call.of_model(self.session, &mut expected), "{story:?}");
+        assert_eq!(found, story.call.make(self.session(), expected.lend()), "{story:?}");
         same("sheet", &after.sheet, &expected.sheet, story);
         same("map", &after.map, &expected.map, story);
         same("scratch", &after.scratch, &expected.scratch, story);
@@ -139,14 +152,13 @@ impl List {
         same("output", &after.out, &expected.out, story);
     }
 
-    /// Asserts that a map row is the model's part of the lent map: a part of that slice, and no copy.
-    fn compare_row(&self, story: &Story, random: &mut Random) {
+    /// Asserts that a map row is the model's part of the lent map: that part itself and no copy, also where it is empty.
+    fn compare_row(&self, story: &Story<S>, random: &mut Random) {
         let map = &story.slices.map[..];
-        let y = [random.below(10) as u16, self.session.height, self.session.height.wrapping_sub(1), random.next() as u16]
-            [random.below(4) as usize];
-        let (row, expected) = (self.session.map_row(map, y), fields(self.session).map_row(map, y));
-        assert_eq!(row.len(), expected.len(), "map row {y} before {story:?}");
-        assert!(row.is_empty() || row.as_ptr() == map[expected].as_ptr(), "map row {y} before {story:?}");
+        let height = self.session().height;
+        let y = [random.below(10) as u16, height, height.wrapping_sub(1), random.next() as u16][random.below(4) as usize];
+        let (row, expected) = (self.session.map_row(map, y), self.session().map_row(map, y));
+        assert!(std::ptr::eq(row, expected), "map row {y} before {story:?}");
     }
 
     /// Adds the calls of the list to those counted.

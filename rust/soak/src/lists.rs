@@ -1,34 +1,36 @@
 //! Random lists of calls.
 
-use crate::calls::{fields, Call, Slices};
+use crate::calls::{Call, Slices};
 use crate::list::{Answers, Check, List};
-use abi::session::Session;
+use model::boards;
+use model::calls::Calls;
 use model::random::Random;
+use model::session::Fields;
 use model::skeleton::size;
 
 /// Makes a number of random lists, half of them tampered with between the calls and half not, and counts the calls by their answers. Each
 /// list has a seed of its own, drawn from this one, which a failure names.
-pub fn make(seed: u64, lists: usize, answers: &mut Answers) {
+pub fn make<S: Calls>(seed: u64, lists: usize, answers: &mut Answers) {
     let mut seeds = Random::new(seed);
     for turn in 0..lists {
         if turn % 2 == 0 {
-            untouched(Check::Both, seeds.next(), answers);
+            untouched::<S>(Check::Both, seeds.next(), answers);
         } else {
-            list(Check::Model, true, seeds.next(), answers);
+            list::<S>(Check::Model, true, seeds.next(), answers);
         }
     }
 }
 
 /// A list in which nothing but the calls touches session, sheet and map.
-pub fn untouched(check: Check, seed: u64, answers: &mut Answers) {
-    list(check, false, seed, answers);
+pub fn untouched<S: Calls>(check: Check, seed: u64, answers: &mut Answers) {
+    list::<S>(check, false, seed, answers);
 }
 
 /// A list of calls. If it is tampered with, session, sheet and map are changed between the calls now and then, and slices of wrong lengths
 /// are lent.
-fn list(check: Check, tampered: bool, seed: u64, answers: &mut Answers) {
+fn list<S: Calls>(check: Check, tampered: bool, seed: u64, answers: &mut Answers) {
     let mut random = Random::new(seed);
-    let mut list = List::new(check, seed, &mut random);
+    let mut list = List::<S>::new(check, seed, &mut random);
     let mut planned = Vec::new();
     for _ in 0..random.between(8, 40) {
         if tampered {
@@ -43,45 +45,19 @@ fn list(check: Check, tampered: bool, seed: u64, answers: &mut Answers) {
         if let Call::Open { w, h } = call {
             if answer == 0 && random.below(3) == 0 {
                 planned.push(Call::Build { engine: 2 + random.below(2) as u16 });
-                planned.extend(arrow(w, h, &mut random).into_iter().map(|(x, y)| Call::Paint { x, y, w: 1, h: 1 }));
+                let arrow = boards::arrow(w.into(), h.into(), &mut random);
+                planned.extend(arrow.copper().into_iter().map(|(x, y)| Call::Paint { x, y, w: 1, h: 1 }));
             }
         }
     }
     list.count(answers);
 }
 
-/// Three pixels to be copper, of which a quick map may miss the one that is nearest to a fourth pixel: on either side of it is another,
-/// which is little farther. None are found if the sheet has no room for them.
-pub fn arrow(w: u16, h: u16, random: &mut Random) -> Vec<(u16, u16)> {
-    for _ in 0..10 {
-        let (x, y) = (random.below(w.into()) as u16, random.below(h.into()) as u16);
-        // the quadrant that has more room
-        let (left, up) = (x > w - 1 - x, y > h - 1 - y);
-        let (across, along) = (u64::from(x.max(w - 1 - x)), u64::from(y.max(h - 1 - y)));
-        let (right, down) = (random.below(across + 1), random.below(along + 1));
-        let size = right * right + down * down;
-        let most = size + 1 + [size / 50, size / 6, size][random.below(3) as usize];
-        let ways = (0..=across).flat_map(|right| (0..=along).map(move |down| (right, down)));
-        let farther: Vec<(u64, u64)> = ways.filter(|(right, down)| (size + 1..=most).contains(&(right * right + down * down))).collect();
-        let (clockwise, other): (Vec<_>, Vec<_>) = farther.into_iter().partition(|way| way.0 * down < way.1 * right);
-        if clockwise.is_empty() || other.is_empty() {
-            continue;
-        }
-        let pick = |ways: &[(u64, u64)], random: &mut Random| ways[random.below(ways.len() as u64) as usize];
-        let place = |(right, down): (u64, u64)| {
-            let (right, down) = (right as u16, down as u16);
-            (if left { x - right } else { x + right }, if up { y - down } else { y + down })
-        };
-        return vec![place((right, down)), place(pick(&clockwise, random)), place(pick(&other, random))];
-    }
-    Vec::new()
-}
-
 /// A call that leads on from where the list stands, or any.
-fn any_call(list: &List, random: &mut Random) -> Call {
-    let session = &list.session;
+fn any_call<S: Calls>(list: &List<S>, random: &mut Random) -> Call {
+    let session = &list.session();
     let onwards: &[u64] = match () {
-        _ if fields(*session).closed() => &[0],
+        _ if session.closed() => &[0],
         _ if !session.current => &[1, 1, 1, 3],
         _ if !session.lowered => &[4, 4, 4, 4, 9, 10],
         _ => &[4, 5, 5, 5, 5, 5],
@@ -135,7 +111,7 @@ fn sides(random: &mut Random) -> [u16; 2] {
 }
 
 /// A rectangle with sides up to `most`, on the sheet or seldom off it.
-fn rectangle(session: &Session, most: usize, random: &mut Random) -> [u16; 4] {
+fn rectangle(session: &Fields, most: usize, random: &mut Random) -> [u16; 4] {
     let side = |side: u16, random: &mut Random| {
         let from = random.below(u64::from(side).max(1)) as u16;
         let room = usize::from(side.saturating_sub(from)).max(1);
@@ -158,8 +134,8 @@ fn rectangle(session: &Session, most: usize, random: &mut Random) -> [u16; 4] {
 
 /// A placing: on the sheet or seldom off it, now and then where a quick map misses the nearest copper; with a q that is small, or near
 /// where the gate begins to fail, or seldom at its limit.
-fn place(list: &List, random: &mut Random) -> Call {
-    let session = &list.session;
+fn place<S: Calls>(list: &List<S>, random: &mut Random) -> Call {
+    let session = &list.session();
     let coordinate = |side: u16, random: &mut Random| {
         let usual = random.below(u64::from(side).max(1));
         seldom(30, &[side.into(), 2_047, 2_048, 65_535], usual, random) as u16
@@ -176,8 +152,8 @@ fn place(list: &List, random: &mut Random) -> Call {
 }
 
 /// A pixel at which the map has another size than the true squared distance, if there are any.
-fn missed(list: &List, random: &mut Random) -> Option<(u16, u16)> {
-    let (w, h) = (usize::from(list.session.width), usize::from(list.session.height));
+fn missed<S: Calls>(list: &List<S>, random: &mut Random) -> Option<(u16, u16)> {
+    let (w, h) = (usize::from(list.session().width), usize::from(list.session().height));
     if list.sheet.len() != w * h || list.map.len() != 2 * w * h {
         return None;
     }
@@ -190,7 +166,7 @@ fn missed(list: &List, random: &mut Random) -> Option<(u16, u16)> {
 }
 
 /// A run: as far as the sheet goes or less, or seldom anything.
-fn run(session: &Session, random: &mut Random) -> Call {
+fn run(session: &Fields, random: &mut Random) -> Call {
     let (first, second) = (random.below(8), random.below(8));
     let direction = if room(session, first) < room(session, second) { second } else { first };
     let beyond = u64::from(random.below(8) == 0);
@@ -202,7 +178,7 @@ fn run(session: &Session, random: &mut Random) -> Call {
 }
 
 /// How many steps it is to the edge of the sheet in one of the eight directions.
-fn room(session: &Session, direction: u64) -> u64 {
+fn room(session: &Fields, direction: u64) -> u64 {
     let east = u64::from(session.width.saturating_sub(session.x).saturating_sub(1));
     let south = u64::from(session.height.saturating_sub(session.y).saturating_sub(1));
     let (west, north) = (u64::from(session.x), u64::from(session.y));
@@ -225,7 +201,7 @@ fn resize_q(random: &mut Random) -> u32 {
 }
 
 /// Slices for a call. To open a sheet some have a wrong length now and then, and always if the sheet would be large.
-fn any_slices(list: &List, call: Call, random: &mut Random) -> Slices {
+fn any_slices<S: Calls>(list: &List<S>, call: Call, random: &mut Random) -> Slices {
     let Call::Open { w, h } = call else { return list.slices(call, random) };
     if u64::from(w) * u64::from(h) > 3_000 || random.below(12) == 0 {
         let small = Call::Open { w: random.between(0, 9) as u16, h: random.between(0, 9) as u16 };
@@ -256,9 +232,11 @@ fn misfit(slices: &mut Slices, random: &mut Random) {
 }
 
 /// Changes session, map and sheet now and then.
-fn tamper(list: &mut List, random: &mut Random) {
+fn tamper<S: Calls>(list: &mut List<S>, random: &mut Random) {
     if random.below(8) == 0 {
-        tamper_session(&mut list.session, random);
+        let mut session = list.session();
+        tamper_session(&mut session, random);
+        list.set_session(session);
     }
     if random.below(6) == 0 {
         tamper_map(&mut list.map, random);
@@ -269,9 +247,9 @@ fn tamper(list: &mut List, random: &mut Random) {
 }
 
 /// Changes one field of a session or several. Many such sessions no call could hand back.
-fn tamper_session(session: &mut Session, random: &mut Random) {
+fn tamper_session(session: &mut Fields, random: &mut Random) {
     for _ in 0..[1, 1, 1, 2, 9][random.below(5) as usize] {
-        let short = |session: &Session, random: &mut Random| {
+        let short = |session: &Fields, random: &mut Random| {
             [0, 1, 2, 3, 4, session.width, session.height, 2_047, 2_048, 2_049, 65_535, random.next() as u16][random.below(12) as usize]
         };
         match random.below(9) {

@@ -1,5 +1,6 @@
 //! Makes random lists of calls from a seed, checks each call, and prints the number of calls by answer: `soak SEED COUNT`.
 
+use soak::library::Library;
 use soak::list::Answers;
 use std::process::ExitCode;
 
@@ -10,7 +11,7 @@ fn main() -> ExitCode {
         return ExitCode::FAILURE;
     };
     let mut answers = Answers::new();
-    soak::lists::make(seed, count as usize, &mut answers);
+    soak::lists::make::<Library>(seed, count as usize, &mut answers);
     println!("{count} lists");
     for (answer, calls) in answers {
         let by_name: Vec<String> = calls.iter().map(|(name, calls)| format!("{name} {calls}")).collect();

@@ -1,0 +1,333 @@
+//! Document 01's boards and edges, call by call: each test is run on the library's session and on the model's.
+
+use model::boards::{self, Board};
+use model::calls::Calls;
+use model::session::Fields;
+use soak::calls::{Call, Slices};
+use soak::library::Library;
+
+/// Makes a test of each function for the model's session, and one for the library's.
+macro_rules! on_either {
+    ($($test:ident),+ $(,)?) => {
+        mod model_session {
+            $(#[test]
+            fn $test() {
+                super::$test::<super::Fields>();
+            })+
+        }
+
+        mod library_session {
+            $(#[test]
+            fn $test() {
+                super::$test::<super::Library>();
+            })+
+        }
+    };
+}
+
+on_either!(
+    fresh,
+    job,
+    m1_to_m4,
+    m5_and_m6,
+    m7,
+    limits,
+    sides_that_no_sheet_has,
+    no_call_could_hand_back,
+    any_map,
+    expand_and_shrink,
+    rows,
+    order_of_refusals,
+);
+
+/// What a call hands back, as the model records it.
+fn told<S: Calls>((answer, session): (u32, S)) -> (u32, Fields) {
+    (answer, session.into())
+}
+
+/// A session with the sheet of a board and its map by an engine, and that map.
+fn built<S: Calls>(board: &Board, engine: u16) -> (Fields, Vec<i16>) {
+    let (w, h) = board.sides();
+    let pixels = board.sheet.len();
+    let (mut sheet, mut map, mut scratch) = (vec![9; pixels], vec![9; 2 * pixels], vec![9; pixels + 1]);
+    let (mut answer, mut session) = S::fresh().open(&mut sheet, w, h);
+    for (x, y) in board.copper() {
+        assert_eq!(answer, 0);
+        (answer, session) = session.paint(&mut sheet, x, y, 1, 1);
+    }
+    assert_eq!((answer, &sheet), (0, &board.sheet));
+    (answer, session) = session.build(&sheet, &mut map, &mut scratch, engine);
+    assert_eq!(answer, 0);
+    let cleared = scratch[..pixels].iter().all(|&number| number == 0);
+    assert!(cleared == (engine == 1) && scratch[pixels] == 9);
+    (session.into(), map)
+}
+
+fn fresh<S: Calls>() {
+    let nothing = Fields { opened: false, width: 0, height: 0, current: false, engine: 0, lowered: false, x: 0, y: 0, q: 0 };
+    assert_eq!(S::fresh().into(), nothing);
+    assert_eq!(told(S::fresh().lift()), (0, nothing));
+}
+
+fn job<S: Calls>() {
+    let (session, map) = built::<S>(&boards::document_01(), 3);
+    assert_eq!(told(S::from(session).place(&map, 0, 0, 5)), (34, session));
+    let (answer, down) = S::from(session).place(&map, 0, 0, 4);
+    assert_eq!((answer, told(down.run(&map, 0, 1))), (0, (34, down.into())));
+    assert_eq!(told(down.lift()), (0, session));
+    assert_eq!(told(S::from(session).run(&map, 0, 1)), (32, session));
+}
+
+/// The largest q that passes at the upper left corner is M2, M3, M4.
+fn m1_to_m4<S: Calls>() {
+    for (engine, way, most) in [(1, [2, 2], 7), (2, [2, 2], 6), (3, [3, 0], 4)] {
+        let (session, map) = built::<S>(&boards::document_01(), engine);
+        assert_eq!(map[..2], way);
+        let (answer, down) = S::from(session).place(&map, 0, 0, most);
+        assert_eq!((answer, down.into()), (0, Fields { lowered: true, q: most, ..session }));
+        for session in [S::from(session), down] {
+            assert_eq!(told(session.place(&map, 0, 0, most + 1)), (34, session.into()));
+        }
+    }
+}
+
+fn m5_and_m6<S: Calls>() {
+    for engine in 1..=3 {
+        assert_eq!(built::<S>(&boards::m5(), engine).1, [0, 0, -1, 0, -2, 0]);
+    }
+    assert_eq!(built::<S>(&boards::m6(), 1).1, [0, 0, -1, 0, 0, 0]);
+}
+
+fn m7<S: Calls>() {
+    let (session, map) = built::<S>(&boards::m7(), 1);
+    let (mut kept, mut bare) = ([9; 5], [9; 5]);
+    assert_eq!(told(S::from(session).skeleton(&map, &mut kept)), (0, session));
+    assert_eq!(told(S::from(session).rebuild(&map, &kept, &mut bare)), (0, session));
+    assert_eq!((kept, bare), ([0, 0, 1, 0, 0], [0, 1, 1, 1, 0]));
+}
+
+fn limits<S: Calls>() {
+    let mut sheet = vec![1; 2_049];
+    assert_eq!(told(S::fresh().open(&mut sheet, 2_049, 1)), (11, Fields::FRESH));
+    assert_eq!(told(S::fresh().open(&mut sheet, 2_048, 1)), (12, Fields::FRESH));
+    assert!(sheet.iter().all(|&byte| byte == 1));
+    assert_eq!(S::fresh().open(&mut sheet[..2_048], 2_048, 1).0, 0);
+    let (session, map) = built::<S>(&Board::bare(2_048, 1), 2);
+    assert_eq!(told(S::from(session).place(&map, 0, 0, 4_194_305)), (15, session));
+    let (answer, down) = S::from(session).place(&map, 0, 0, 4_194_304);
+    assert_eq!((answer, told(down.run(&map, 0, 2_048))), (0, (17, down.into())));
+    assert_eq!(told(down.run(&map, 0, 2_047)), (0, Fields { x: 2_047, ..down.into() }));
+    assert_eq!(told(down.run(&map, 1, 1)), (33, down.into()));
+}
+
+/// With a side of 0 or above 2,048 nothing counts as open, also with slices of these sides; nothing is written.
+fn sides_that_no_sheet_has<S: Calls>() {
+    for (width, height) in [(2_049, 1), (1, 2_049), (2_049, 2), (0, 0), (0, 5), (2_048, 0), (65_535, 1)] {
+        let pixels = usize::from(width) * usize::from(height);
+        let lent = Slices {
+            sheet: vec![1; pixels],
+            map: vec![0; 2 * pixels],
+            scratch: vec![7; pixels],
+            marks: vec![1; pixels],
+            out: vec![7; pixels],
+        };
+        for engine in [0, 1] {
+            let session = Fields { opened: true, width, height, current: engine == 1, engine, ..Fields::FRESH };
+            let [open, paint] = [Call::Open { w: width, h: height }, Call::Paint { x: 0, y: 0, w: 1, h: 1 }];
+            let builds = [1, 2, 3].map(|engine| Call::Build { engine });
+            let others = [paint, Call::Expand { q: 1 }, Call::Shrink { q: 1 }, Call::Skeleton, Call::Rebuild];
+            for (call, answer) in builds.into_iter().chain(others).map(|call| (call, 30)).chain([(open, 11)]) {
+                let mut slices = lent.clone();
+                let found = told(call.make(S::from(session), slices.lend()));
+                assert_eq!(found, (answer, session), "{call:?} on {width} × {height}");
+                assert!(slices == lent, "{call:?} on {width} × {height} wrote something");
+            }
+        }
+    }
+}
+
+/// Every refused field makes the session count as nothing open, and lift makes it a fresh one.
+fn no_call_could_hand_back<S: Calls>() {
+    let (session, map) = built::<S>(&boards::document_01(), 3);
+    let stale = Fields { current: false, engine: 0, ..session };
+    let down: Fields = S::from(session).place(&map, 0, 0, 4).1.into();
+    for session in [session, stale, down] {
+        assert!(!session.closed());
+        assert_eq!(S::from(session).map_row(&map, 0).len(), 8);
+    }
+    let wrong = [
+        Fields { width: 0, ..session },
+        Fields { height: 2_049, ..session },
+        Fields { opened: false, ..session },
+        Fields { engine: 0, ..session },
+        Fields { engine: 4, ..session },
+        Fields { current: false, ..session },
+        Fields { q: 1, ..session },
+        Fields { y: 1, ..stale },
+        Fields { lowered: true, ..stale },
+        Fields { engine: 1, ..stale },
+        Fields { x: 4, ..down },
+        Fields { q: 4_194_305, ..down },
+        Fields { lowered: false, ..down },
+        Fields { q: 1, ..Fields::FRESH },
+        Fields { width: 4, height: 4, ..Fields::FRESH },
+        Fields { lowered: true, ..Fields::FRESH },
+        Fields { opened: true, ..Fields::FRESH },
+    ];
+    for fields in wrong {
+        assert!(fields.closed(), "{fields:?}");
+        let session = S::from(fields);
+        assert_eq!(told(session.place(&map, 0, 0, 4)), (30, fields));
+        assert!(session.map_row(&map, 0).is_empty());
+        assert_eq!(told(session.lift()), (0, Fields::FRESH));
+        assert_eq!(told(session.open(&mut [1, 1], 2, 1)), told(S::fresh().open(&mut [1, 1], 2, 1)));
+    }
+}
+
+/// A half marked pixel is labelled, and its size is taken as it comes. Both components −32,768 are unlabelled, which passes.
+fn any_map<S: Calls>() {
+    for engine in 1..=3 {
+        let session = S::from(Fields { opened: true, width: 1, height: 1, current: true, engine, ..Fields::FRESH });
+        for map in [[-32_768; 2], [-32_768, 0], [0, -32_768], [32_767, -32_768], [32_767; 2]] {
+            assert_eq!(session.place(&map, 0, 0, 4_194_304).0, 0, "{map:?} by engine {engine}");
+        }
+        assert_eq!(session.place(&[0, 0], 0, 0, 0).0, 34);
+        // the sizes around the gates at the largest q: 2,048², 169 / 144 and twice as much
+        let around: [([i16; 2], u32); 2] = match engine {
+            1 => [([2_048, 0], 34), ([2_048, 1], 0)],
+            2 => [([2_218, 52], 34), ([2_218, 55], 0)],
+            _ => [([2_048, 2_048], 34), ([2_048, 2_049], 0)],
+        };
+        for (map, answer) in around {
+            assert_eq!(session.place(&map, 0, 0, 4_194_304).0, answer, "{map:?} by engine {engine}");
+        }
+    }
+}
+
+fn expand_and_shrink<S: Calls>() {
+    let board = boards::document_01();
+    let (session, mut map) = built::<S>(&board, 3);
+    let mut sheet = board.sheet.clone();
+    let mut scratch = vec![9; 17];
+    let (answer, after) = S::from(session).place(&map, 0, 0, 4).1.expand(&mut sheet, &mut map, &mut scratch, 2);
+    let stale = Fields { current: false, engine: 0, ..session };
+    assert_eq!((answer, after.into()), (0, stale));
+    assert_eq!(sheet, [0, 0, 1, 1, 0, 1, 1, 1, 1, 1, 1, 1, 1, 1, 1, 1]);
+    assert!(map.iter().all(|&number| number == -32_768) && scratch[..16] == [0; 16] && scratch[16] == 9);
+    assert_eq!(told(after.shrink(&mut sheet, &mut map, &mut scratch, 4_194_305)), (15, stale));
+    assert_eq!(told(after.shrink(&mut sheet, &mut map, &mut scratch[..15], 0)), (12, stale));
+    assert_eq!(told(after.shrink(&mut sheet, &mut map, &mut scratch, 2)), (0, stale));
+    assert_eq!(sheet, [0, 0, 0, 1, 0, 0, 0, 1, 0, 0, 1, 1, 1, 1, 1, 1]);
+}
+
+/// A row is a part of the lent map, and an empty part is that from its start.
+fn rows<S: Calls>() {
+    let (session, map) = built::<S>(&boards::document_01(), 1);
+    let session = S::from(session);
+    for y in 0..4 {
+        assert!(std::ptr::eq(session.map_row(&map, y), &map[8 * usize::from(y)..][..8]));
+    }
+    for y in [4, 5, 2_048, 65_535] {
+        assert!(std::ptr::eq(session.map_row(&map, y), &map[..0]));
+    }
+    assert!(std::ptr::eq(session.map_row(&map[..31], 1), &map[..0]));
+    assert!(std::ptr::eq(S::fresh().map_row(&map, 1), &map[..0]));
+}
+
+/// Makes a call with every set of wrong things about it. It must answer 30 if that is among them, otherwise the lowest, and 0 if nothing is
+/// wrong.
+fn every_set(wrong: &[u32], call: impl Fn(&dyn Fn(u32) -> bool) -> u32) {
+    for set in 0..1 << wrong.len() {
+        let chosen: Vec<u32> = (0..wrong.len()).filter(|at| set >> at & 1 == 1).map(|at| wrong[at]).collect();
+        let expected = if chosen.contains(&30) { 30 } else { chosen.iter().copied().min().unwrap_or(0) };
+        assert_eq!(call(&|number| chosen.contains(&number)), expected, "{chosen:?}");
+    }
+}
+
+/// A slice without its last number if something is wrong with it.
+fn cut<T>(slice: &mut [T], wrong: bool) -> &mut [T] {
+    let length = slice.len();
+    &mut slice[..length - usize::from(wrong)]
+}
+
+fn order_of_refusals<S: Calls>() {
+    let board = boards::document_01();
+    let (session, map) = built::<S>(&board, 3);
+    let sheet = board.sheet;
+    let open = Fields { current: false, engine: 0, ..session };
+    let of = |session: Fields, closed: bool| S::from(Fields { opened: !closed, ..session });
+    let engine = |number: u16| Fields { current: number != 0, engine: number, ..open };
+
+    let others = [Fields { opened: false, ..open }, Fields { q: 1, ..engine(3) }];
+    for session in [Fields::FRESH, open, engine(3)].into_iter().chain(others) {
+        every_set(&[11, 12], |wrong| S::from(session).open(cut(&mut sheet.clone(), wrong(12)), 4, if wrong(11) { 2_049 } else { 4 }).0);
+    }
+    for rectangle in
+        [[0, 0, 5, 4], [0, 0, 4, 5], [3, 3, 0, 1], [3, 3, 1, 0], [4, 0, 1, 1], [0, 4, 1, 1], [65_535, 0, 2, 1], [0, 65_535, 1, 2]]
+    {
+        for fill in [S::paint, S::erase] {
+            every_set(&[12, 13, 30], |wrong| {
+                let [x, y, w, h] = if wrong(13) { rectangle } else { [0, 0, 4, 4] };
+                fill(of(open, wrong(30)), cut(&mut sheet.clone(), wrong(12)), x, y, w, h).0
+            });
+        }
+    }
+    for which in 0..3 {
+        for other in [0, 4, 257, 65_535] {
+            every_set(&[12, 14, 30], |wrong| {
+                let (mut sheet, mut map, mut scratch) = (sheet.clone(), map.clone(), [9; 16]);
+                // only exact tests scratch, so this does not go with another engine
+                let [one, two, three] = [0, 1, 2].map(|slice| wrong(12) && which == slice);
+                let number = if wrong(14) && !three { other } else { 1 };
+                let scratch = cut(&mut scratch, three);
+                of(open, wrong(30)).build(cut(&mut sheet, one), cut(&mut map, two), scratch, number).0
+            });
+        }
+        for resize in [S::expand, S::shrink] {
+            every_set(&[12, 15, 30], |wrong| {
+                let (mut sheet, mut map, mut scratch) = (sheet.clone(), map.clone(), [9; 16]);
+                let [one, two, three] = [0, 1, 2].map(|slice| wrong(12) && which == slice);
+                let q = if wrong(15) { 4_194_305 } else { 0 };
+                resize(of(open, wrong(30)), cut(&mut sheet, one), cut(&mut map, two), cut(&mut scratch, three), q).0
+            });
+        }
+    }
+    for number in [2, 3, 0, 4] {
+        let answer = S::from(open).build(&sheet, &mut map.clone(), &mut [], number).0;
+        assert_eq!(answer, if [2, 3].contains(&number) { 0 } else { 14 }, "engine {number} without scratch");
+    }
+    every_set(&[12, 15, 16, 30, 31, 34], |wrong| {
+        let session = of(engine(if wrong(31) { 0 } else { 3 }), wrong(30));
+        let q = if wrong(15) { 4_194_305 } else { 4 + u32::from(wrong(34)) };
+        session.place(cut(&mut map.clone(), wrong(12)), if wrong(16) { 4 } else { 0 }, 0, q).0
+    });
+    // along the upper edge there is copper at the last column
+    let down = Fields { lowered: true, ..engine(3) };
+    every_set(&[12, 17, 30, 32, 33, 34], |wrong| {
+        let session = of(if wrong(32) { engine(3) } else { down }, wrong(30));
+        let (direction, count) = match (wrong(33), wrong(34)) {
+            (false, false) => (0, 2),
+            (false, true) => (0, 3),
+            (true, false) => (6, 1),
+            (true, true) => (0, 4),
+        };
+        let count = if wrong(17) { 2_048 } else { count };
+        session.run(cut(&mut map.clone(), wrong(12)), direction, count).0
+    });
+    for which in 0..3 {
+        every_set(&[12, 30, 31, 36, 37], |wrong| {
+            let number = if wrong(36) { 2 } else { 1 };
+            let session = of(engine(if wrong(31) { 0 } else { number }), wrong(30));
+            let mut map = if wrong(37) { vec![1; 32] } else { map.clone() };
+            let [one, two, three] = [0, 1, 2].map(|slice| wrong(12) && which == slice);
+            let (mut marks, mut out) = ([1; 16], [9; 16]);
+            if !three {
+                let answer = session.skeleton(cut(&mut map.clone(), one), cut(&mut out, two)).0;
+                let rebuilt = session.rebuild(cut(&mut map, one), &marks, cut(&mut out, two)).0;
+                assert_eq!(answer, rebuilt);
+                return answer;
+            }
+            session.rebuild(&map, cut(&mut marks, true), &mut out).0
+        });
+    }
+}
