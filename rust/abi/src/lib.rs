@@ -1,3 +1,5 @@
 //! The proved library's calls as safe Rust functions, for the tests and the benchmark: see [`session`].
 
+#![warn(missing_docs)]
+
 pub mod session;

@@ -32,7 +32,9 @@
 pub struct Session {
     /// Whether a sheet is open.
     pub opened: bool,
+    /// How many columns the sheet has.
     pub width: u16,
+    /// How many rows it has.
     pub height: u16,
     /// Whether the map is current.
     pub current: bool,
@@ -40,16 +42,21 @@ pub struct Session {
     pub engine: u16,
     /// Whether the cutter is down.
     pub lowered: bool,
+    /// The column of the lowered cutter.
     pub x: u16,
+    /// Its row.
     pub y: u16,
+    /// Its squared radius.
     pub q: u32,
 }
 
-/// What a call hands back: its answer number, 0 if it was done, and the session.
+/// What a call hands back.
 #[repr(C)]
 #[derive(Clone, Copy, Debug, PartialEq, Eq)]
 pub struct Reply {
+    /// The answer number, 0 if the call was done.
     pub answer: u32,
+    /// The session after the call.
     pub session: Session,
 }
 
@@ -201,7 +208,8 @@ impl Session {
         unsafe { ffi::abi_session_rebuild(self, map.as_ptr(), map.len(), marks.as_ptr(), marks.len(), out.as_mut_ptr(), out.len()) }
     }
 
-    /// The part of the map that holds row y. It is empty if nothing is open, y is not below the height, or the map has a wrong length.
+    /// The part of the map that holds row y. It is empty, and from the map's start, if nothing is open, y is not below the height, or the map has
+    /// a wrong length.
     pub fn map_row(self, map: &[i16], y: u16) -> &[i16] {
         // SAFETY: as in `place`.
         let span = unsafe { ffi::abi_session_row(self, map.as_ptr(), map.len(), y) };

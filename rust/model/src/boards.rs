@@ -259,8 +259,8 @@ pub fn patterned(w: usize, h: usize, random: &mut Random) -> Board {
         1 => drawn(w, h, |x, y| (x + column) % a == 0 && (y + row) % b == 0),
         2 => drawn(w, h, |x, y| (x + a * y + column) % (a * b + 1) == 0),
         // diagonals, down to the right or to the left or both
-        3 => drawn(w, h, |x, y| (x + h - y + column) % (a + b) == 0),
-        4 => drawn(w, h, |x, y| (x + y + column) % (a + b) == 0 || b > 3 && (x + h - y + row) % (a + b) == 0),
+        3 => drawn(w, h, |x, y| (x + h - y + column).is_multiple_of(a + b)),
+        4 => drawn(w, h, |x, y| (x + y + column).is_multiple_of(a + b) || b > 3 && (x + h - y + row).is_multiple_of(a + b)),
         // a ring: copper at one squared distance from a pixel, or not below it
         5 => {
             let size = [1, 2, 4, 5, 9, 10, 25, 25, 50, 65][random.below(10) as usize];

@@ -1,12 +1,16 @@
 //! A repeatable source of random numbers: SplitMix64.
 
+/// The source, with its state.
 pub struct Random(u64);
 
 impl Random {
+    /// The source that starts with a seed.
     pub fn new(seed: u64) -> Self {
         Random(seed)
     }
 
+    /// The next number, any of 64 bits. It never ends, so there is no `Option` as in an iterator.
+    #[allow(clippy::should_implement_trait)]
     pub fn next(&mut self) -> u64 {
         self.0 = self.0.wrapping_add(0x9e37_79b9_7f4a_7c15);
         let mut z = self.0;

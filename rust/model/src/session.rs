@@ -19,14 +19,23 @@ const DIRECTIONS: [(i64, i64); 8] = [(1, 0), (1, 1), (0, 1), (-1, 1), (-1, 0), (
 /// A session as it is recorded, with any numbers.
 #[derive(Clone, Copy, Debug, PartialEq, Eq)]
 pub struct Fields {
+    /// Whether a sheet is open.
     pub opened: bool,
+    /// How many columns the sheet has.
     pub width: u16,
+    /// How many rows it has.
     pub height: u16,
+    /// Whether the map is current.
     pub current: bool,
+    /// The engine that built the map: 1 exact, 2 8SED, 3 4SED.
     pub engine: u16,
+    /// Whether the cutter is down.
     pub lowered: bool,
+    /// The column of the lowered cutter.
     pub x: u16,
+    /// Its row.
     pub y: u16,
+    /// Its squared radius.
     pub q: u32,
 }
 
@@ -147,6 +156,7 @@ impl Open {
 }
 
 impl Fields {
+    /// Nothing open, map not current, cutter up.
     pub const FRESH: Fields = Fields { opened: false, width: 0, height: 0, current: false, engine: 0, lowered: false, x: 0, y: 0, q: 0 };
 
     /// How an open sheet is recorded, or that nothing is open.
@@ -198,6 +208,7 @@ impl Fields {
         (0, Fields::of(Some(open.stale())))
     }
 
+    /// Expand and shrink: the sheet takes what `resized` makes of it.
     fn resize(
         self,
         sheet: &mut [u8],

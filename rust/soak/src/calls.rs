@@ -9,23 +9,67 @@ use std::fmt::Debug;
 #[derive(Clone, Copy, Debug, PartialEq, Eq)]
 pub enum Call {
     /// Opens a sheet.
-    Open { w: u16, h: u16 },
+    Open {
+        /// How many columns.
+        w: u16,
+        /// How many rows.
+        h: u16,
+    },
     /// Paints a rectangle.
-    Paint { x: u16, y: u16, w: u16, h: u16 },
+    Paint {
+        /// Its first column.
+        x: u16,
+        /// Its first row.
+        y: u16,
+        /// How many columns it has.
+        w: u16,
+        /// How many rows it has.
+        h: u16,
+    },
     /// Erases a rectangle.
-    Erase { x: u16, y: u16, w: u16, h: u16 },
+    Erase {
+        /// Its first column.
+        x: u16,
+        /// Its first row.
+        y: u16,
+        /// How many columns it has.
+        w: u16,
+        /// How many rows it has.
+        h: u16,
+    },
     /// Builds the map.
-    Build { engine: u16 },
+    Build {
+        /// The number of the engine.
+        engine: u16,
+    },
     /// Brings the cutter down.
-    Place { x: u16, y: u16, q: u32 },
+    Place {
+        /// The column.
+        x: u16,
+        /// The row.
+        y: u16,
+        /// The squared radius.
+        q: u32,
+    },
     /// Runs the lowered cutter.
-    Run { direction: u16, count: u16 },
+    Run {
+        /// The direction, clockwise from east.
+        direction: u16,
+        /// How many steps.
+        count: u16,
+    },
     /// Lifts the cutter.
     Lift,
     /// Expands the copper.
-    Expand { q: u32 },
+    Expand {
+        /// The squared radius.
+        q: u32,
+    },
     /// Shrinks the copper.
-    Shrink { q: u32 },
+    Shrink {
+        /// The squared radius.
+        q: u32,
+    },
     /// Writes the skeleton of the map.
     Skeleton,
     /// Writes what marked pixels cover.
