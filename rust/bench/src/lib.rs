@@ -1,5 +1,8 @@
 //! What the benchmark times the library beside.
 
+#![warn(missing_docs)]
+
+pub mod command;
 pub mod fused;
 pub mod plain;
 pub mod plain_calls;

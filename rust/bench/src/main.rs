@@ -1,5 +1,4 @@
-//! Times the library beside plain Rust and prints a table. The number of rounds may be given, and then the call that is to be timed alone.
-//! With `--peers` the exact map is timed beside other libraries instead, and with `--memory` nothing but writing the lent slices once.
+//! Times the library beside plain Rust and prints a table: see `bench --help`.
 //!
 //! A round goes once through all boards and runs each contender on each, so that a slow while of the machine hits all alike. The shortest
 //! time counts.
@@ -7,8 +6,10 @@
 mod peers;
 
 use abi::session::{Reply, Session};
+use bench::command::{self, Command};
 use bench::plain_calls::{self, FUSED, PLAIN};
 use model::boards::{self, Board};
+use std::process::ExitCode;
 use std::time::{Duration, Instant};
 
 const SIDES: [usize; 3] = [512, 1_024, 2_048];
@@ -222,17 +223,8 @@ fn cell(number: Option<f64>) -> String {
     number.map_or("–".into(), |number| format!("{number:.2}"))
 }
 
-fn main() {
-    let (options, words): (Vec<String>, Vec<String>) = std::env::args().skip(1).partition(|word| word.starts_with("--"));
-    let rounds = words.first().map_or(10, |rounds| rounds.parse().expect("the number of rounds"));
-    if options.iter().any(|option| option == "--peers") {
-        let boards = boards::BENCHMARK.iter().flat_map(|&name| SIDES.map(|side| (name, boards::benchmark(name, side))));
-        return peers::compare(rounds, boards);
-    }
-    if options.iter().any(|option| option == "--memory") {
-        return write_once(rounds);
-    }
-    let alone = words.get(1);
+/// The lines of the table, each with the shortest time of so many rounds.
+fn timed(rounds: usize, alone: Option<&str>) -> Vec<Line> {
     let mut lines = Vec::new();
     for what in WHATS.iter().filter(|what| alone.is_none_or(|alone| alone == what.name)) {
         for name in boards::BENCHMARK {
@@ -248,6 +240,30 @@ fn main() {
             }
         }
     }
+    lines
+}
+
+fn main() -> ExitCode {
+    let words: Vec<String> = std::env::args().skip(1).collect();
+    match command::parse(&words) {
+        Ok(Command::Help) => print!("{}", command::USE),
+        Ok(Command::Table { rounds, alone }) => table(rounds, alone.as_deref()),
+        Ok(Command::Peers { rounds }) => {
+            let boards = boards::BENCHMARK.iter().flat_map(|&name| SIDES.map(|side| (name, boards::benchmark(name, side))));
+            peers::compare(rounds, boards);
+        }
+        Ok(Command::Memory { rounds }) => write_once(rounds),
+        Err(reason) => {
+            eprintln!("bench: {reason}; bench --help prints the use");
+            return ExitCode::from(2);
+        }
+    }
+    ExitCode::SUCCESS
+}
+
+/// Times the calls, or one alone, and prints the table.
+fn table(rounds: usize, alone: Option<&str>) {
+    let lines = timed(rounds, alone);
     println!("ns a pixel, the shortest of {rounds} runs of each (twice as many at 1,024, four times at 512)");
     println!("each ratio is the library's time to the one before it; plain is the same call in plain Rust, fused a tuned variant\n");
     println!(
@@ -268,5 +284,14 @@ fn main() {
             }
             println!();
         }
+    }
+}
+
+#[cfg(test)]
+mod tests {
+    /// The command line knows the calls that are timed.
+    #[test]
+    fn known_calls() {
+        assert_eq!(super::WHATS.map(|what| what.name), bench::command::CALLS);
     }
 }
