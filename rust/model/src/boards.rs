@@ -282,7 +282,11 @@ pub fn patterned(w: usize, h: usize, random: &mut Random) -> Board {
 /// The names of the benchmark's boards.
 pub const BENCHMARK: [&str; 7] = ["one pixel", "3 pixels", "1 % random", "50 % random", "tracks", "diagonal", "full"];
 
-/// The board of the benchmark that has a name, with sides of the given length; that of an unknown name is all copper.
+/// The board of the benchmark that has this name, with sides of the given length.
+///
+/// # Panics
+///
+/// If no board has it.
 pub fn benchmark(name: &str, side: usize) -> Board {
     let mut random = Random::new(31);
     match name {
@@ -292,6 +296,7 @@ pub fn benchmark(name: &str, side: usize) -> Board {
         "50 % random" => self::random(side, side, 500, &mut random),
         "tracks" => tracks(side, side, &mut random),
         "diagonal" => diagonal(side, side),
-        _ => full(side, side),
+        "full" => full(side, side),
+        _ => panic!("no board of the benchmark is called '{name}'"),
     }
 }

@@ -33,16 +33,14 @@ pub fn parse(words: &[String]) -> Result<Command, String> {
     if let Some(option) = words.iter().find(|word| word.starts_with('-')) {
         return Err(format!("unknown option '{option}'"));
     }
-    match words {
-        [] => Err("SEED and COUNT are missing".into()),
-        [_] => Err("COUNT is missing".into()),
-        [seed, count] => {
-            let seed = seed.parse().map_err(|_| format!("SEED is a number, not '{seed}'"))?;
-            let whole = count.parse().ok().filter(|&count| count > 0);
-            let count = whole.ok_or_else(|| format!("COUNT is a number from 1, not '{count}'"))?;
-            Ok(Command::Make { seed, count })
-        }
-        [_, _, more, ..] => Err(format!("'{more}' is one word too many")),
+    let [seed, rest @ ..] = words else { return Err("SEED and COUNT are missing".into()) };
+    let seed = seed.parse().map_err(|_| format!("SEED is a number, not '{seed}'"))?;
+    let [count, rest @ ..] = rest else { return Err("COUNT is missing".into()) };
+    let whole = count.parse().ok().filter(|&count| count > 0);
+    let count = whole.ok_or_else(|| format!("COUNT is a number from 1, not '{count}'"))?;
+    match rest {
+        [] => Ok(Command::Make { seed, count }),
+        [more, ..] => Err(format!("'{more}' is one word too many")),
     }
 }
 
@@ -69,7 +67,7 @@ mod tests {
         for (line, named) in [
             ("", "SEED"),
             ("1", "COUNT"),
-            ("abc", "COUNT"),
+            ("abc", "'abc'"),
             ("abc 5", "'abc'"),
             ("1 abc", "'abc'"),
             ("1 0", "'0'"),
