@@ -250,61 +250,102 @@ fn cut<T>(slice: &mut [T], wrong: bool) -> &mut [T] {
     &mut slice[..length - usize::from(wrong)]
 }
 
+/// Document 01's board as the refusals are tried on it: its sheet, its map by 4SED, and the session with the sheet open alone.
+struct Tried {
+    sheet: Vec<u8>,
+    map: Vec<i16>,
+    open: Fields,
+}
+
+impl Tried {
+    /// The session with the map current by an engine, or with 0 not current.
+    fn by(&self, engine: u16) -> Fields {
+        Fields { current: engine != 0, engine, ..self.open }
+    }
+}
+
+/// The session, or what is left of it if nothing is open.
+fn unless<S: Calls>(closed: bool, session: Fields) -> S {
+    S::from(Fields { opened: !closed, ..session })
+}
+
 fn order_of_refusals<S: Calls>() {
     let board = boards::document_01();
     let (session, map) = built::<S>(&board, 3);
-    let sheet = board.sheet;
-    let open = Fields { current: false, engine: 0, ..session };
-    let of = |session: Fields, closed: bool| S::from(Fields { opened: !closed, ..session });
-    let engine = |number: u16| Fields { current: number != 0, engine: number, ..open };
+    let tried = Tried { sheet: board.sheet, map, open: Fields { current: false, engine: 0, ..session } };
+    open_refusals::<S>(&tried);
+    fill_refusals::<S>(&tried);
+    build_refusals::<S>(&tried);
+    resize_refusals::<S>(&tried);
+    place_refusals::<S>(&tried);
+    run_refusals::<S>(&tried);
+    read_refusals::<S>(&tried);
+}
 
-    let others = [Fields { opened: false, ..open }, Fields { q: 1, ..engine(3) }];
-    for session in [Fields::FRESH, open, engine(3)].into_iter().chain(others) {
-        every_set(&[11, 12], |wrong| S::from(session).open(cut(&mut sheet.clone(), wrong(12)), 4, if wrong(11) { 2_049 } else { 4 }).0);
+/// Open asks nothing of the session.
+fn open_refusals<S: Calls>(tried: &Tried) {
+    let unsound = [Fields { opened: false, ..tried.open }, Fields { q: 1, ..tried.by(3) }];
+    for session in [Fields::FRESH, tried.open, tried.by(3)].into_iter().chain(unsound) {
+        every_set(&[11, 12], |wrong| {
+            let h = if wrong(11) { 2_049 } else { 4 };
+            S::from(session).open(cut(&mut tried.sheet.clone(), wrong(12)), 4, h).0
+        });
     }
-    for rectangle in
-        [[0, 0, 5, 4], [0, 0, 4, 5], [3, 3, 0, 1], [3, 3, 1, 0], [4, 0, 1, 1], [0, 4, 1, 1], [65_535, 0, 2, 1], [0, 65_535, 1, 2]]
-    {
+}
+
+fn fill_refusals<S: Calls>(tried: &Tried) {
+    let empty = [[3, 3, 0, 1], [3, 3, 1, 0]];
+    let beyond = [[0, 0, 5, 4], [0, 0, 4, 5], [4, 0, 1, 1], [0, 4, 1, 1], [65_535, 0, 2, 1], [0, 65_535, 1, 2]];
+    for rectangle in empty.into_iter().chain(beyond) {
         for fill in [S::paint, S::erase] {
             every_set(&[12, 13, 30], |wrong| {
                 let [x, y, w, h] = if wrong(13) { rectangle } else { [0, 0, 4, 4] };
-                fill(of(open, wrong(30)), cut(&mut sheet.clone(), wrong(12)), x, y, w, h).0
+                fill(unless(wrong(30), tried.open), cut(&mut tried.sheet.clone(), wrong(12)), x, y, w, h).0
             });
         }
     }
-    for which in 0..3 {
-        for other in [0, 4, 257, 65_535] {
-            every_set(&[12, 14, 30], |wrong| {
-                let (mut sheet, mut map, mut scratch) = (sheet.clone(), map.clone(), [9; 16]);
-                // only exact tests scratch, so this does not go with another engine
-                let [one, two, three] = [0, 1, 2].map(|slice| wrong(12) && which == slice);
-                let number = if wrong(14) && !three { other } else { 1 };
-                let scratch = cut(&mut scratch, three);
-                of(open, wrong(30)).build(cut(&mut sheet, one), cut(&mut map, two), scratch, number).0
-            });
-        }
-        for resize in [S::expand, S::shrink] {
-            every_set(&[12, 15, 30], |wrong| {
-                let (mut sheet, mut map, mut scratch) = (sheet.clone(), map.clone(), [9; 16]);
-                let [one, two, three] = [0, 1, 2].map(|slice| wrong(12) && which == slice);
-                let q = if wrong(15) { 4_194_305 } else { 0 };
-                resize(of(open, wrong(30)), cut(&mut sheet, one), cut(&mut map, two), cut(&mut scratch, three), q).0
-            });
-        }
+}
+
+fn build_refusals<S: Calls>(tried: &Tried) {
+    for (which, other) in (0..3).flat_map(|which| [0, 4, 257, 65_535].map(|other| (which, other))) {
+        every_set(&[12, 14, 30], |wrong| {
+            let (mut sheet, mut map, mut scratch) = (tried.sheet.clone(), tried.map.clone(), [9; 16]);
+            // only exact tests scratch, so this does not go with another engine
+            let [one, two, three] = [0, 1, 2].map(|slice| wrong(12) && which == slice);
+            let number = if wrong(14) && !three { other } else { 1 };
+            let scratch = cut(&mut scratch, three);
+            unless::<S>(wrong(30), tried.open).build(cut(&mut sheet, one), cut(&mut map, two), scratch, number).0
+        });
     }
-    for number in [2, 3, 0, 4] {
-        let answer = S::from(open).build(&sheet, &mut map.clone(), &mut [], number).0;
-        assert_eq!(answer, if [2, 3].contains(&number) { 0 } else { 14 }, "engine {number} without scratch");
+    for (number, answer) in [(2, 0), (3, 0), (0, 14), (4, 14)] {
+        let found = S::from(tried.open).build(&tried.sheet, &mut tried.map.clone(), &mut [], number).0;
+        assert_eq!(found, answer, "engine {number} without scratch");
     }
+}
+
+fn resize_refusals<S: Calls>(tried: &Tried) {
+    for (which, resize) in (0..3).flat_map(|which| [S::expand, S::shrink].map(|resize| (which, resize))) {
+        every_set(&[12, 15, 30], |wrong| {
+            let (mut sheet, mut map, mut scratch) = (tried.sheet.clone(), tried.map.clone(), [9; 16]);
+            let [one, two, three] = [0, 1, 2].map(|slice| wrong(12) && which == slice);
+            let q = if wrong(15) { 4_194_305 } else { 0 };
+            resize(unless(wrong(30), tried.open), cut(&mut sheet, one), cut(&mut map, two), cut(&mut scratch, three), q).0
+        });
+    }
+}
+
+fn place_refusals<S: Calls>(tried: &Tried) {
     every_set(&[12, 15, 16, 30, 31, 34], |wrong| {
-        let session = of(engine(if wrong(31) { 0 } else { 3 }), wrong(30));
+        let session = unless::<S>(wrong(30), tried.by(if wrong(31) { 0 } else { 3 }));
         let q = if wrong(15) { 4_194_305 } else { 4 + u32::from(wrong(34)) };
-        session.place(cut(&mut map.clone(), wrong(12)), if wrong(16) { 4 } else { 0 }, 0, q).0
+        session.place(cut(&mut tried.map.clone(), wrong(12)), if wrong(16) { 4 } else { 0 }, 0, q).0
     });
-    // along the upper edge there is copper at the last column
-    let down = Fields { lowered: true, ..engine(3) };
+}
+
+/// Along the upper edge there is copper at the last column.
+fn run_refusals<S: Calls>(tried: &Tried) {
     every_set(&[12, 17, 30, 32, 33, 34], |wrong| {
-        let session = of(if wrong(32) { engine(3) } else { down }, wrong(30));
+        let session = unless::<S>(wrong(30), Fields { lowered: !wrong(32), ..tried.by(3) });
         let (direction, count) = match (wrong(33), wrong(34)) {
             (false, false) => (0, 2),
             (false, true) => (0, 3),
@@ -312,22 +353,24 @@ fn order_of_refusals<S: Calls>() {
             (true, true) => (0, 4),
         };
         let count = if wrong(17) { 2_048 } else { count };
-        session.run(cut(&mut map.clone(), wrong(12)), direction, count).0
+        session.run(cut(&mut tried.map.clone(), wrong(12)), direction, count).0
     });
+}
+
+fn read_refusals<S: Calls>(tried: &Tried) {
     for which in 0..3 {
         every_set(&[12, 30, 31, 36, 37], |wrong| {
-            let number = if wrong(36) { 2 } else { 1 };
-            let session = of(engine(if wrong(31) { 0 } else { number }), wrong(30));
-            let mut map = if wrong(37) { vec![1; 32] } else { map.clone() };
+            let engine = if wrong(36) { 2 } else { 1 };
+            let session = unless::<S>(wrong(30), tried.by(if wrong(31) { 0 } else { engine }));
+            let mut map = if wrong(37) { vec![1; 32] } else { tried.map.clone() };
             let [one, two, three] = [0, 1, 2].map(|slice| wrong(12) && which == slice);
             let (mut marks, mut out) = ([1; 16], [9; 16]);
-            if !three {
-                let answer = session.skeleton(cut(&mut map.clone(), one), cut(&mut out, two)).0;
-                let rebuilt = session.rebuild(cut(&mut map, one), &marks, cut(&mut out, two)).0;
-                assert_eq!(answer, rebuilt);
-                return answer;
+            if three {
+                return session.rebuild(&map, cut(&mut marks, true), &mut out).0;
             }
-            session.rebuild(&map, cut(&mut marks, true), &mut out).0
+            let answer = session.skeleton(cut(&mut map.clone(), one), cut(&mut out, two)).0;
+            assert_eq!(answer, session.rebuild(cut(&mut map, one), &marks, cut(&mut out, two)).0);
+            answer
         });
     }
 }

@@ -13,11 +13,10 @@ pub mod plain_skeleton;
 #[cfg(test)]
 mod tests {
     use super::*;
-    use abi::session::Reply;
     use model::boards::{self, Board};
-    use model::calls::Calls;
     use model::random::Random;
     use model::session::Fields;
+    use soak::calls::{Call, Slices};
     use soak::library::Library;
 
     type Scan = fn(&[u8], &mut [i16], usize, usize, bool) -> bool;
@@ -126,41 +125,51 @@ mod tests {
         on_boards(24, check_skeleton);
     }
 
+    /// Slices for a board, now and then of a wrong length.
+    fn any_slices(board: &Board, random: &mut Random) -> Slices {
+        let pixels = board.sheet.len();
+        let [sheet, numbers, scratch, marks, out] =
+            [(); 5].map(|()| if random.below(9) == 0 { pixels + 1 - 2 * random.below(2) as usize } else { pixels });
+        let mut slices = Slices {
+            sheet: board.sheet.clone(),
+            map: anything(2 * numbers, random),
+            scratch: vec![7; scratch],
+            marks: vec![1; marks],
+            out: vec![7; out],
+        };
+        slices.sheet.resize(sheet, 1);
+        slices
+    }
+
     /// Sessions and slices of which something is wrong, and others: the plain calls answer and leave what the model's do.
     fn check_calls(board: &Board, random: &mut Random) {
         for _ in 0..4 {
             let fields = any_session(board, random);
-            let session = Library::from(fields).0;
-            let mut length = |right: usize| if random.below(6) == 0 { right + 1 - 2 * random.below(2) as usize } else { right };
-            let pixels = board.sheet.len();
-            let mut sheet = board.sheet.clone();
-            sheet.resize(length(pixels), 1);
-            let [marks, out, scratch, numbers] = [(); 4].map(|()| length(pixels));
-            let (marks, mut out, mut scratch) = (vec![1; marks], vec![7; out], vec![7; scratch]);
-            let mut map = anything(2 * numbers, random);
-            let number = [fields.engine, random.below(5) as u16][random.below(2) as usize];
+            let mut slices = any_slices(board, random);
+            let engine = [fields.engine, random.below(5) as u16][random.below(2) as usize];
             let q = [random.below(30), 4_194_304 + random.below(2)][random.below(2) as usize] as u32;
-            for which in 0..5 {
-                let mut expected = (sheet.clone(), map.clone(), scratch.clone(), out.clone());
-                let (a, b, c, d) = &mut expected;
-                let (answer, after) = match which {
-                    0 => fields.build(a, b, c, number),
-                    1 => fields.skeleton(b, d),
-                    2 => fields.rebuild(b, &marks, d),
-                    3 => fields.expand(a, b, c, q),
-                    _ => fields.shrink(a, b, c, q),
-                };
-                let reply = match which {
-                    0 => plain_calls::build(session, &sheet, &mut map, &mut scratch, number, &plain_calls::FUSED),
-                    1 => plain_calls::skeleton(session, &map, &mut out),
-                    2 => plain_calls::rebuild(session, &map, &marks, &mut out),
-                    3 => plain_calls::expand(session, &mut sheet, &mut map, &mut scratch, q),
-                    _ => plain_calls::shrink(session, &mut sheet, &mut map, &mut scratch, q),
-                };
-                assert_eq!(reply, Reply { answer, session: Library::from(after).0 }, "call {which} with {fields:?}: {board:?}");
-                assert!((&sheet, &map, &scratch, &out) == (&expected.0, &expected.1, &expected.2, &expected.3), "call {which}: {board:?}");
+            for call in [Call::Build { engine }, Call::Skeleton, Call::Rebuild, Call::Expand { q }, Call::Shrink { q }] {
+                let mut expected = slices.clone();
+                let found = plain_call(call, fields, &mut slices);
+                assert_eq!(found, call.make(fields, expected.lend()), "{call:?} with {fields:?}: {board:?}");
+                assert!(slices == expected, "{call:?} with {fields:?}: {board:?}");
             }
         }
+    }
+
+    /// A call in plain Rust.
+    fn plain_call(call: Call, fields: Fields, slices: &mut Slices) -> (u32, Fields) {
+        let Slices { sheet, map, scratch, marks, out } = slices;
+        let session = Library::from(fields).0;
+        let reply = match call {
+            Call::Build { engine } => plain_calls::build(session, sheet, map, scratch, engine, &plain_calls::FUSED),
+            Call::Expand { q } => plain_calls::expand(session, sheet, map, scratch, q),
+            Call::Shrink { q } => plain_calls::shrink(session, sheet, map, scratch, q),
+            Call::Skeleton => plain_calls::skeleton(session, map, out),
+            Call::Rebuild => plain_calls::rebuild(session, map, marks, out),
+            _ => panic!("{call:?} is not timed"),
+        };
+        (reply.answer, Library(reply.session).into())
     }
 
     /// A session with the board's sheet open, and now and then a field that may not be so.
