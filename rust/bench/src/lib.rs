@@ -143,7 +143,9 @@ mod tests {
 
     /// Sessions and slices of which something is wrong, and others: the plain calls answer and leave what the model's do.
     fn check_calls(board: &Board, random: &mut Random) {
-        for _ in 0..4 {
+        // the model's rebuild goes by brute force, so not on the larger boards
+        let times = if board.sheet.len() > 1_000 { 0 } else { 4 };
+        for _ in 0..times {
             let fields = any_session(board, random);
             let mut slices = any_slices(board, random);
             let engine = [fields.engine, random.below(5) as u16][random.below(2) as usize];
