@@ -1,15 +1,35 @@
 // The calls of the session, exported for the comparison with Rust and the benchmark. Like those, they ask nothing of their caller.
 ghost use mathlib.Core.Path.{_≡_};
-ghost use Prim.Native.Nat.{_*_};
+ghost use mathlib.Core.Bool.{cond, _&&_};
+ghost use lib.Dec.{eqb};
 ghost use lib.ListN.{take, drop};
 ghost use Rattle.raster.specs.Map.{unmapped};
-ghost use Rattle.exact.specs.Nearest.{cleared};
+ghost use Rattle.raster.specs.Refusal.{firstOf};
+ghost use Rattle.raster.specs.Sheet.{bare};
 ghost use Rattle.morphology.specs.Resize.{expanded, shrunk};
 ghost use Rattle.rebuild.specs.Rebuild.{rebuilt};
 ghost use Rattle.skeleton.specs.Skeleton.{skeletonOf};
-ghost use Rattle.raster.specs.Sheet.{bare};
 ghost use Rattle.session.specs.State.{fresh, openedAs, stale, downAt};
-ghost use Rattle.session.specs.Calls.{onDone, openAnswer, fillAnswer, filledBy, buildAnswer, buildSession, buildMap, buildScratch, placeAnswer, runAnswer, runSession, liftSession, resizeAnswer, skeletonAnswer, rebuildAnswer, mapRow};
+ghost use Rattle.session.specs.Refusals.{
+  openTable,
+  fillTable,
+  buildTable,
+  placeTable,
+  runTable,
+  resizeTable,
+  skeletonTable,
+  rebuildTable,
+};
+ghost use Rattle.session.specs.Calls.{
+  onDone,
+  filledBy,
+  buildSession,
+  buildMap,
+  scratchBy,
+  runSession,
+  liftSession,
+  mapRow,
+};
 ghost use Rattle.abi.specs.Span.{rowSpan};
 use session::Reply;
 use session::Session;
@@ -23,9 +43,9 @@ pub extern "C" fn abi_session_fresh() -> Session
 
 #[no_mangle]
 pub extern "C" fn abi_session_open(s: Session, sheet: &mut [u8], w: u16, h: u16) -> Reply
-    ensures { λ r. ⌜ r .answer ≡ openAnswer (now (sheet .entry)) w h ⌝ }
-    ensures { λ r. ⌜ r .session ≡ onDone (r .answer) (openedAs w h) s ⌝ }
-    ensures { λ r. ⌜ now (sheet .exit) ≡ onDone (r .answer) (bare (now (sheet .entry))) (now (sheet .entry)) ⌝ }
+    ensures answered { λ r. ⌜ r .answer ≡ firstOf (openTable (now (sheet .entry)) w h) ⌝ }
+    ensures handed_back { λ r. ⌜ r .session ≡ onDone (r .answer) (openedAs w h) s ⌝ }
+    ensures sheet_left { λ r. ⌜ now (sheet .exit) ≡ onDone (r .answer) (bare (now (sheet .entry))) (now (sheet .entry)) ⌝ }
 {
     s.open_sheet(sheet, w, h)
 }
@@ -39,9 +59,9 @@ pub extern "C" fn abi_session_paint(
     cols: u16,
     rows: u16,
 ) -> Reply
-    ensures { λ r. ⌜ r .answer ≡ fillAnswer s (now (sheet .entry)) x y cols rows ⌝ }
-    ensures { λ r. ⌜ r .session ≡ onDone (r .answer) (stale s) s ⌝ }
-    ensures { λ r. ⌜ now (sheet .exit) ≡ onDone (r .answer) (filledBy s x y cols rows 1 (now (sheet .entry))) (now (sheet .entry)) ⌝ }
+    ensures answered { λ r. ⌜ r .answer ≡ firstOf (fillTable s (now (sheet .entry)) x y cols rows) ⌝ }
+    ensures handed_back { λ r. ⌜ r .session ≡ onDone (r .answer) (stale s) s ⌝ }
+    ensures sheet_left { λ r. ⌜ now (sheet .exit) ≡ onDone (r .answer) (filledBy s x y cols rows 1 (now (sheet .entry))) (now (sheet .entry)) ⌝ }
 {
     s.paint(sheet, x, y, cols, rows)
 }
@@ -55,9 +75,9 @@ pub extern "C" fn abi_session_erase(
     cols: u16,
     rows: u16,
 ) -> Reply
-    ensures { λ r. ⌜ r .answer ≡ fillAnswer s (now (sheet .entry)) x y cols rows ⌝ }
-    ensures { λ r. ⌜ r .session ≡ onDone (r .answer) (stale s) s ⌝ }
-    ensures { λ r. ⌜ now (sheet .exit) ≡ onDone (r .answer) (filledBy s x y cols rows 0 (now (sheet .entry))) (now (sheet .entry)) ⌝ }
+    ensures answered { λ r. ⌜ r .answer ≡ firstOf (fillTable s (now (sheet .entry)) x y cols rows) ⌝ }
+    ensures handed_back { λ r. ⌜ r .session ≡ onDone (r .answer) (stale s) s ⌝ }
+    ensures sheet_left { λ r. ⌜ now (sheet .exit) ≡ onDone (r .answer) (filledBy s x y cols rows 0 (now (sheet .entry))) (now (sheet .entry)) ⌝ }
 {
     s.erase(sheet, x, y, cols, rows)
 }
@@ -70,33 +90,35 @@ pub extern "C" fn abi_session_build(
     scratch: &mut [i16],
     engine: u16,
 ) -> Reply
-    ensures { λ r. ⌜ r .answer ≡ buildAnswer s (now (sheet .entry)) (now (map .entry)) (now (scratch .entry)) engine ⌝ }
-    ensures { λ r. ⌜ r .session ≡ buildSession s engine (r .answer) ⌝ }
-    ensures { λ r. ⌜ now (map .exit) ≡ buildMap s (now (sheet .entry)) (now (map .entry)) engine (r .answer) ⌝ }
-    ensures { λ r. ⌜ now (scratch .exit) ≡ buildScratch s (now (scratch .entry)) engine (r .answer) ⌝ }
+    ensures answered { λ r. ⌜ r .answer ≡ firstOf (buildTable s (now (sheet .entry)) (now (map .entry)) (now (scratch .entry)) engine) ⌝ }
+    ensures handed_back { λ r. ⌜ r .session ≡ buildSession s engine (r .answer) ⌝ }
+    ensures map_left { λ r. ⌜ now (map .exit) ≡ buildMap s (now (sheet .entry)) (now (map .entry)) engine (r .answer) ⌝ }
+    ensures scratch_left { λ r. ⌜ now (scratch .exit)
+        ≡ cond (eqb (r .answer) 0 && eqb engine 1) (scratchBy s (now (scratch .entry))) (now (scratch .entry)) ⌝ }
 {
     s.build(sheet, map, scratch, engine)
 }
 
 #[no_mangle]
 pub extern "C" fn abi_session_place(s: Session, map: &[i16], x: u16, y: u16, q: u32) -> Reply
-    ensures { λ r. ⌜ r .answer ≡ placeAnswer s (now (map .entry)) x y q ⌝ }
-    ensures { λ r. ⌜ r .session ≡ onDone (r .answer) (downAt x y q s) s ⌝ }
+    ensures answered { λ r. ⌜ r .answer ≡ firstOf (placeTable s (now (map .entry)) x y q) ⌝ }
+    ensures handed_back { λ r. ⌜ r .session ≡ onDone (r .answer) (downAt x y q s) s ⌝ }
 {
     s.place(map, x, y, q)
 }
 
 #[no_mangle]
 pub extern "C" fn abi_session_run(s: Session, map: &[i16], direction: u16, count: u16) -> Reply
-    ensures { λ r. ⌜ r .answer ≡ runAnswer s (now (map .entry)) direction count ⌝ }
-    ensures { λ r. ⌜ r .session ≡ onDone (r .answer) (runSession s direction count) s ⌝ }
+    ensures answered { λ r. ⌜ r .answer ≡ firstOf (runTable s (now (map .entry)) direction count) ⌝ }
+    ensures handed_back { λ r. ⌜ r .session ≡ onDone (r .answer) (runSession s direction count) s ⌝ }
 {
     s.run(map, direction, count)
 }
 
 #[no_mangle]
 pub extern "C" fn abi_session_lift(s: Session) -> Reply
-    ensures { λ r. ⌜ (r .answer ≡ 0) × (r .session ≡ liftSession s) ⌝ }
+    ensures answered { λ r. ⌜ r .answer ≡ 0 ⌝ }
+    ensures handed_back { λ r. ⌜ r .session ≡ liftSession s ⌝ }
 {
     s.lift()
 }
@@ -109,11 +131,11 @@ pub extern "C" fn abi_session_expand(
     scratch: &mut [i16],
     q: u32,
 ) -> Reply
-    ensures { λ r. ⌜ r .answer ≡ resizeAnswer s (now (sheet .entry)) (now (map .entry)) (now (scratch .entry)) q ⌝ }
-    ensures { λ r. ⌜ r .session ≡ onDone (r .answer) (stale s) s ⌝ }
-    ensures { λ r. ⌜ now (sheet .exit) ≡ onDone (r .answer) (expanded (s .width) (s .height) q (now (sheet .entry))) (now (sheet .entry)) ⌝ }
-    ensures { λ r. ⌜ now (map .exit) ≡ onDone (r .answer) (unmapped (now (map .entry))) (now (map .entry)) ⌝ }
-    ensures { λ r. ⌜ now (scratch .exit) ≡ onDone (r .answer) (cleared (s .height * s .width) (now (scratch .entry))) (now (scratch .entry)) ⌝ }
+    ensures answered { λ r. ⌜ r .answer ≡ firstOf (resizeTable s (now (sheet .entry)) (now (map .entry)) (now (scratch .entry)) q) ⌝ }
+    ensures handed_back { λ r. ⌜ r .session ≡ onDone (r .answer) (stale s) s ⌝ }
+    ensures sheet_left { λ r. ⌜ now (sheet .exit) ≡ onDone (r .answer) (expanded (s .width) (s .height) q (now (sheet .entry))) (now (sheet .entry)) ⌝ }
+    ensures map_left { λ r. ⌜ now (map .exit) ≡ onDone (r .answer) (unmapped (now (map .entry))) (now (map .entry)) ⌝ }
+    ensures scratch_left { λ r. ⌜ now (scratch .exit) ≡ onDone (r .answer) (scratchBy s (now (scratch .entry))) (now (scratch .entry)) ⌝ }
 {
     s.expand(sheet, map, scratch, q)
 }
@@ -126,20 +148,20 @@ pub extern "C" fn abi_session_shrink(
     scratch: &mut [i16],
     q: u32,
 ) -> Reply
-    ensures { λ r. ⌜ r .answer ≡ resizeAnswer s (now (sheet .entry)) (now (map .entry)) (now (scratch .entry)) q ⌝ }
-    ensures { λ r. ⌜ r .session ≡ onDone (r .answer) (stale s) s ⌝ }
-    ensures { λ r. ⌜ now (sheet .exit) ≡ onDone (r .answer) (shrunk (s .width) (s .height) q (now (sheet .entry))) (now (sheet .entry)) ⌝ }
-    ensures { λ r. ⌜ now (map .exit) ≡ onDone (r .answer) (unmapped (now (map .entry))) (now (map .entry)) ⌝ }
-    ensures { λ r. ⌜ now (scratch .exit) ≡ onDone (r .answer) (cleared (s .height * s .width) (now (scratch .entry))) (now (scratch .entry)) ⌝ }
+    ensures answered { λ r. ⌜ r .answer ≡ firstOf (resizeTable s (now (sheet .entry)) (now (map .entry)) (now (scratch .entry)) q) ⌝ }
+    ensures handed_back { λ r. ⌜ r .session ≡ onDone (r .answer) (stale s) s ⌝ }
+    ensures sheet_left { λ r. ⌜ now (sheet .exit) ≡ onDone (r .answer) (shrunk (s .width) (s .height) q (now (sheet .entry))) (now (sheet .entry)) ⌝ }
+    ensures map_left { λ r. ⌜ now (map .exit) ≡ onDone (r .answer) (unmapped (now (map .entry))) (now (map .entry)) ⌝ }
+    ensures scratch_left { λ r. ⌜ now (scratch .exit) ≡ onDone (r .answer) (scratchBy s (now (scratch .entry))) (now (scratch .entry)) ⌝ }
 {
     s.shrink(sheet, map, scratch, q)
 }
 
 #[no_mangle]
 pub extern "C" fn abi_session_skeleton(s: Session, map: &[i16], out: &mut [u8]) -> Reply
-    ensures { λ r. ⌜ r .answer ≡ skeletonAnswer s (now (map .entry)) (now (out .entry)) ⌝ }
-    ensures { λ r. ⌜ r .session ≡ s ⌝ }
-    ensures { λ r. ⌜ now (out .exit) ≡ onDone (r .answer) (skeletonOf (now (map .entry)) (s .width) (s .height)) (now (out .entry)) ⌝ }
+    ensures answered { λ r. ⌜ r .answer ≡ firstOf (skeletonTable s (now (map .entry)) (now (out .entry))) ⌝ }
+    ensures handed_back { λ r. ⌜ r .session ≡ s ⌝ }
+    ensures out_left { λ r. ⌜ now (out .exit) ≡ onDone (r .answer) (skeletonOf (now (map .entry)) (s .width) (s .height)) (now (out .entry)) ⌝ }
 {
     s.skeleton(map, out)
 }
@@ -151,9 +173,10 @@ pub extern "C" fn abi_session_rebuild(
     marks: &[u8],
     out: &mut [u8],
 ) -> Reply
-    ensures { λ r. ⌜ r .answer ≡ rebuildAnswer s (now (map .entry)) (now (marks .entry)) (now (out .entry)) ⌝ }
-    ensures { λ r. ⌜ r .session ≡ s ⌝ }
-    ensures { λ r. ⌜ now (out .exit) ≡ onDone (r .answer) (rebuilt (now (map .entry)) (s .width) (s .height) (now (marks .entry))) (now (out .entry)) ⌝ }
+    ensures answered { λ r. ⌜ r .answer ≡ firstOf (rebuildTable s (now (map .entry)) (now (marks .entry)) (now (out .entry))) ⌝ }
+    ensures handed_back { λ r. ⌜ r .session ≡ s ⌝ }
+    ensures out_left { λ r. ⌜ now (out .exit)
+        ≡ onDone (r .answer) (rebuilt (now (map .entry)) (s .width) (s .height) (now (marks .entry))) (now (out .entry)) ⌝ }
 {
     s.rebuild(map, marks, out)
 }
@@ -168,8 +191,8 @@ pub struct Span {
 // The bounds of the part that map row y hands out; an empty part is from 0.
 #[no_mangle]
 pub extern "C" fn abi_session_row(s: Session, map: &[i16], y: u16) -> Span
-    ensures { λ r. ⌜ r ≡ rowSpan s (now (map .entry)) y ⌝ }
-    ensures { λ r. ⌜ take (r .len) (drop (r .from) (now (map .entry))) ≡ mapRow s (now (map .entry)) y ⌝ }
+    ensures spanned { λ r. ⌜ r ≡ rowSpan s (now (map .entry)) y ⌝ }
+    ensures row_there { λ r. ⌜ take (r .len) (drop (r .from) (now (map .entry))) ≡ mapRow s (now (map .entry)) y ⌝ }
 {
     let len = s.map_row(map, y).len();
     if len == 0 {

@@ -1,10 +1,10 @@
 -- Where a cutter may stand, and what a run of it meets: document 01, "Engines", the gates, and "Calls", place and run.
 -- Assumes nothing.
 use mathlib.Core.Path.{_≡_}
-use mathlib.Core.Bool.{Bool, not, cond, _||_}
+use mathlib.Core.Bool.{Bool, not, cond, _&&_, _||_}
 use mathlib.Core.List.{List}
 use Prim.Native.Nat.{ℕ, _+_, _*_, _<_, _≤_}
-use lib.Dec.{eqb}
+use lib.Dec.{eqb, leb}
 use lib.IntN.{ℤ, pos}
 use lib.ListN.{length}
 use Rattle.raster.specs.Gate.{Gate, passes}
@@ -16,7 +16,11 @@ use Rattle.exact.specs.Nearest as exact
 use Rattle.cutter.specs.declared.Cutter.{Cutter}
 use Rattle.cutter.specs.Directions.{columnAfter, rowAfter, walk, isPixel}
 
--- engine 1 exact, 2 8SED, 3 4SED
+-- the engines' numbers: 1 exact, 2 8SED, 3 4SED
+abbrev pub knownEngine : (engine : ℕ) → Bool
+knownEngine e = leb 1 e && leb e 3
+
+-- an engine's gate
 abbrev pub gateOf : (engine : ℕ) → Gate
 gateOf e = cond (eqb e 1) exact.gate (scan.gate (eqb e 2))
 

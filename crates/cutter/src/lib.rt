@@ -3,7 +3,7 @@ ghost use mathlib.Core.Path.{_≡_};
 ghost use Prim.Native.Nat.{_-_, _<_, _≤_};
 ghost use Rattle.raster.specs.Gate.{passes};
 ghost use Rattle.cutter.specs.Directions.{stepRight, stepDown, placeAfter, leavesSide, columnAfter, rowAfter};
-ghost use Rattle.cutter.specs.Gates.{gateOf, On, mayStand, OnSheet, cutterAfter, leavesSheet, blocked};
+ghost use Rattle.cutter.specs.Gates.{knownEngine, gateOf, On, mayStand, OnSheet, cutterAfter, leavesSheet, blocked};
 
 // A cutter of q at the pixel (x, y), over a map of width × height pixels that an engine built.
 pub struct Cutter {
@@ -15,7 +15,14 @@ pub struct Cutter {
     pub q: u32,
 }
 
-// ---- the gates
+// ---- the engines and their gates
+
+// There is an engine of that number.
+pub fn is_engine(engine: u16) -> bool
+    ensures { λ r. ⌜ r ≡ knownEngine engine ⌝ }
+{
+    (1 <= engine) & (engine <= 3)
+}
 
 // A labelled pixel of size a passes a cutter of q.
 fn passes_gate(engine: u16, a: u32, q: u32) -> bool

@@ -6,7 +6,7 @@ use mathlib.Core.Path.{_≡_}
 use mathlib.Core.Logic.{_⊎_}
 use mathlib.Core.Bool.{Bool, true, cond, _&&_}
 use mathlib.Core.List.{List, _++_}
-use Prim.Native.Nat.{ℕ, _<_, _≤_}
+use Prim.Native.Nat.{ℕ, _*_, _<_, _≤_}
 use lib.Dec.{ltb}
 use lib.IntN.{ℤ, pos, _-ℤ_}
 use lib.ListN.{drop, replicate}
@@ -62,9 +62,19 @@ toRow y (foundAt i j) = pos j -ℤ pos y
 unfoldable pub exactMap : (copper : Mask) (w h : ℕ) → List ℤ
 exactMap copper w h = vectors w h (λ x y. toColumn x (nearest copper x y w h)) (λ x y. toRow y (nearest copper x y w h))
 
--- Calls, build: scratch's first n numbers at 0, the rest untouched
+-- ---- scratch: Calls, build
+
+-- how many numbers it must have for a sheet of w × h
+abbrev pub scratchNeed : (w h : ℕ) → ℕ
+scratchNeed w h = h * w
+
+-- the first n numbers at 0, the rest untouched
 abbrev pub cleared : (n : ℕ) → List ℤ → List ℤ
 cleared n scratch = replicate n (pos 0) ++ drop n scratch
+
+-- what is left in it
+abbrev pub scratchLeft : (w h : ℕ) → List ℤ → List ℤ
+scratchLeft w h scratch = cleared (scratchNeed w h) scratch
 
 -- the gate at a pixel of size a: a > q
 abbrev pub gate : Gate

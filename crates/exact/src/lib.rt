@@ -16,7 +16,7 @@ ghost use Rattle.raster.specs.Vector.{Short};
 ghost use Rattle.envelope.specs.Best.{noSite, bestSite, Line};
 ghost use Rattle.envelope.specs.Stack.{holder};
 ghost use Rattle.columns.specs.Column.{isZero};
-ghost use Rattle.exact.specs.Nearest.{exactMap, cleared};
+ghost use Rattle.exact.specs.Nearest.{exactMap, scratchNeed, cleared, scratchLeft};
 ghost use Rattle.exact.specs.Rows.{wayCost, wayAt, rowCosts, costsOf, Written, copperFrom, CopperRun, CopperEnd, Next, Solved};
 
 // ---- one row
@@ -326,12 +326,19 @@ fn zero(scratch: &mut [i16], n: usize)
     }
 }
 
-// The exact map of a sheet of w × h pixels. Scratch is left as document 01 asks: its first w × h numbers at 0.
+// How many scratch numbers `exact` needs.
+pub fn scratch_need(w: u16, h: u16) -> usize
+    ensures { λ r. ⌜ r ≡ scratchNeed w h ⌝ }
+{
+    raster::area(w, h)
+}
+
+// The exact map of a sheet of w × h pixels. The scratch that it needs is left at 0.
 pub fn exact(sheet: &[u8], map: &mut [i16], scratch: &mut [i16], w: usize, h: usize)
     requires { ⌜ (w ≤ 2048) × (h ≤ 2048) ⌝ }
-    requires { ⌜ (length (now sheet) ≡ h * w) × ((length (now map) ≡ 2 * (h * w)) × (h * w ≤ length (now scratch))) ⌝ }
-    ensures { λ _. ⌜ now (map .exit) ≡ exactMap (copperOf (now (sheet .entry)) w) w h ⌝ }
-    ensures { λ _. ⌜ now (scratch .exit) ≡ cleared (h * w) (now (scratch .entry)) ⌝ }
+    requires { ⌜ (length (now sheet) ≡ h * w) × ((length (now map) ≡ 2 * (h * w)) × (scratchNeed w h ≤ length (now scratch))) ⌝ }
+    ensures map_left { λ _. ⌜ now (map .exit) ≡ exactMap (copperOf (now (sheet .entry)) w) w h ⌝ }
+    ensures scratch_left { λ _. ⌜ now (scratch .exit) ≡ scratchLeft w h (now (scratch .entry)) ⌝ }
 {
     columns::ways(sheet, map, w, h);
     solve(map, w, h);

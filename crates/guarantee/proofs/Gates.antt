@@ -20,7 +20,7 @@ use Rattle.scan.proofs.Theorems as scan
 use Rattle.exact.proofs.Theorems as exact
 use Rattle.cutter.specs.Gates.{gateOf, passesAt}
 use Rattle.session.specs.declared.Session.{Session}
-use Rattle.session.specs.Calls.{engineMap}
+use Rattle.session.specs.Maps.{engineMap}
 use Rattle.guarantee.specs.Claims.{withinFraction}
 
 -- what a gate g promises at a pixel whose vector is (dx, dy)

@@ -14,11 +14,11 @@ use Rattle.raster.specs.Sheet.{copperOf}
 use Rattle.cutter.specs.Gates.{passesAt}
 use Rattle.session.specs.declared.Session.{Session}
 use Rattle.session.specs.State.{sound, active}
-use Rattle.session.specs.Calls.{engineMap}
+use Rattle.session.specs.Maps.{engineMap}
+use Rattle.session.specs.Lists.{World}
 use Rattle.session.proofs.Granted.{Limited, active-limits}
 use Rattle.guarantee.specs.Board.{Board}
-use Rattle.guarantee.specs.World.{World}
-use Rattle.guarantee.specs.Claims.{Above, withinFraction, Close, Agree, Free}
+use Rattle.guarantee.specs.Claims.{withinFraction, Close, Agree, Free}
 use Rattle.guarantee.proofs.Gates.{gate-clear, gate-close, in-fraction}
 use Rattle.guarantee.proofs.Sound.{known-engine}
 
@@ -50,7 +50,7 @@ module _ {b : Board} {w : World} (inv : Inv b w) where
       let a = inv .agree in
       record { across = omega (arith, c .across, a .width); down = omega (arith, c .down, a .height); is-copper = sym (a .copper i j (c .across) (c .down)) ∙ c .is-copper }
 
-  pub above : (q x y : ℕ) → Clear (copperOf (w .sheet) (w .session .width)) (w .session .width) (w .session .height) x y q → Above b q x y
+  pub above : (q x y : ℕ) → Clear (copperOf (w .sheet) (w .session .width)) (w .session .width) (w .session .height) x y q → Clear (b .copper) (b .width) (b .height) x y q
   above q x y clear i j c = clear i j (on-sheet c)
 
   -- ---- the gate at a pixel of a current map

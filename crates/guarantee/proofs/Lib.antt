@@ -6,4 +6,5 @@ pub mod Copper
 pub mod Invariant
 pub mod Steps
 pub mod Theorems
+pub mod Jobs
 pub mod Table

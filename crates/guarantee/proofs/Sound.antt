@@ -7,6 +7,7 @@ use lib.Dec.{leb}
 use borrow.Author.Tests.{le-leb, lt-ltb, leb-true}
 use Rattle.raster.specs.Limits.{maxQ}
 use Rattle.raster.specs.Tests.{and-left, and-right}
+use Rattle.cutter.specs.Gates.{knownEngine}
 use Rattle.session.specs.declared.Session.{Session}
 use Rattle.session.specs.State.{side, cutterSound, mapSound, sheetSound, sound, active, openedAs, stale, builtBy, downAt, upOf}
 use Rattle.session.proofs.Granted.{active-sides}
@@ -50,6 +51,6 @@ module _ (s : Session) (open-sheet : active s ≡ true) where
   pub stale-sound : sound (stale s) ≡ true
   stale-sound = open-sound (s .width) (s .height) (active-sides s open-sheet)
 
-  pub built-sound : (e : ℕ) → leb 1 e && leb e 3 ≡ true → sound (builtBy e s) ≡ true
+  pub built-sound : (e : ℕ) → knownEngine e ≡ true → sound (builtBy e s) ≡ true
   unfolding sound sheetSound mapSound cutterSound
   built-sound e k = rw (active-sides s open-sheet, k)

@@ -1,13 +1,13 @@
 -- Each call, from a board and a world between which the invariant holds: its claim holds, and the invariant holds after it.
 -- Assumes nothing.
-use mathlib.Core.Path.{_≡_, refl, sym, ap, _∙_}
+use mathlib.Core.Path.{_≡_, refl, sym, ap, subst, _∙_}
 use mathlib.Core.Bool.{Bool, true, false, not, cond, _&&_, _||_, true≢false}
 use mathlib.Core.List.{List}
 use mathlib.Core.Option.{Option}
 use Prim.Native.Nat.{ℕ, _+_, _-_, _<_, _≤_}
 use native.Mathlib.Omega.{arith}
 use lib.Dec.{eqb, leb}
-use lib.IntN.{ℤ}
+use lib.IntN.{ℤ, pos, natAbs}
 use borrow.Author.Tests.{eqb-true, eqb-false, ne-eqb, leb-true, not-true, not-false}
 use Rattle.raster.specs.LoopLaws.{any-found, any-false}
 use Rattle.raster.specs.Distance.{Clear}
@@ -15,20 +15,20 @@ use Rattle.raster.specs.Pixels.{Mask}
 use Rattle.raster.specs.Tests.{and-left}
 use Rattle.raster.specs.Sheet.{copperOf, bare, inRectangle}
 use Rattle.raster.specs.Map.{unmapped}
-use Rattle.raster.specs.Refusal.{lastOf}
-use Rattle.cutter.specs.Directions.{columnAfter, rowAfter}
-use Rattle.cutter.specs.Gates as cutter
-use Rattle.cutter.specs.Gates.{mayStand, blocked}
-use Rattle.cutter.proofs.Walk.{on-the-way}
+use Rattle.raster.specs.Refusal.{firstOf}
+use Rattle.cutter.specs.Directions.{walk, columnAfter, rowAfter}
+use Rattle.cutter.specs.Gates.{cutterAfter, mayStand, blocked}
+use Rattle.cutter.proofs.Walk.{reached, on-the-way}
 use Rattle.session.specs.declared.Session.{Session}
-use Rattle.session.specs.State.{sound, active, stale, builtBy, cutterAs}
-use Rattle.session.specs.Calls as session
-use Rattle.session.specs.Calls.{cutterOf, ownCutter, buildAnswer, placeAnswer, runAnswer}
-use Rattle.session.proofs.Granted.{open-granted, fill-granted, build-granted, Building, place-granted, run-granted, Running, resize-granted}
-use Rattle.guarantee.specs.Board.{Lent, Call, opening, paint, erase, build, place, run, lift, expand, shrink, skeleton, rebuild, aside, BoardCutter, up, down, Board, recoppered, withCutter, cutterRun, done, feed}
-use Rattle.guarantee.specs.World.{World, world, lentTo, answer, left, worldAfter}
-use Rattle.guarantee.specs.Claims.{Along, Safe, Stopped, Fair, Claim, SameCutter, Free}
-use Rattle.guarantee.proofs.Answers.{Quiet, open-quiet, fill-quiet, build-quiet, place-quiet, run-quiet, resize-quiet, read-quiet, last-done, last-holds, last-never}
+use Rattle.session.specs.State.{sound, active, cutterUp, stale, builtBy, cutterAs, ownCutter}
+use Rattle.session.specs.Maps.{engineMap}
+use Rattle.session.specs.Refusals.{openTable, fillTable, buildRows, buildTable, placeRows, placeTable, runRows, runTable, resizeTable, readTable}
+use Rattle.session.specs.Calls.{filledBy, runSession}
+use Rattle.session.specs.Lists.{Lent, Call, opening, paint, erase, build, place, run, lift, expand, shrink, skeleton, rebuild, aside, World, world, lentTo, tableOf, answer, left, worldAfter}
+use Rattle.session.proofs.Granted.{open-granted, fill-granted, Building, build-done, build-overflows, place-done, place-stopped, RunGranted, run-done, run-stopped, resize-granted}
+use Rattle.guarantee.specs.Board.{BoardCutter, up, down, Board, recoppered, withCutter, cutterRun, done, feed}
+use Rattle.guarantee.specs.Claims.{Visits, at-place, at-step, Safe, Fair, Claim, SameCutter, Free}
+use Rattle.guarantee.proofs.Answers.{never}
 use Rattle.guarantee.proofs.Sound.{open-sound, stale-sound, built-sound, up-sound, down-sound}
 use Rattle.guarantee.proofs.Copper.{bare-copper, filled-copper, expanded-copper, shrunk-copper}
 use Rattle.guarantee.proofs.Invariant.{CurrentMap, Inv, opens, above, passed-clear, failed-close}
@@ -45,17 +45,30 @@ refused (erase x y c r) w e f = rw e
 refused (build n s) w e f = rw (e, f)
 refused (place x y q) w e f = rw e
 refused (run d n) w e f = rw e
-refused lift w e f = absurd (true≢false e)
+refused lift w e f = rw e
 refused (expand q s) w e f = rw e
 refused (shrink q s) w e f = rw e
 refused (skeleton o) w e f = refl
 refused (rebuild m o) w e f = refl
 refused aside w e f = refl
 
+-- ---- what holds of the pixels that a call visits
+
+module _ (P : (x y q : ℕ) → Type 0) where
+  -- a place visits its pixel
+  at-pixel : (i j r : ℕ) → P i j r → {k : BoardCutter} (x y q : ℕ) → Visits (place i j r) k x y q → P x y q
+  at-pixel i j r p x y q (at-place a b c d) = p
+
+  -- a run visits the pixels that its steps reach
+  at-steps : (d n : ℕ) {k : BoardCutter}
+      → ((start : ℤ × ℤ) (q : ℕ) → k ≡ down start q → (i x y : ℕ) → 1 ≤ i → i ≤ n → walk d i start ≡ (pos x, pos y) → P x y q)
+      → (x y q : ℕ) → Visits (run d n) k x y q → P x y q
+  at-steps d n f x y q (at-step a b start r i v u low high at) = f start r refl i v u low high at
+
 -- ---- a sheet is open, the cutter up
 
 abbrev upOver : (x y engine : ℕ) (current : Bool) → Session
-upOver x y e c = record { opened = true; width = x; height = y; current = c; engine = e; lowered = false; x = 0; y = 0; q = 0 }
+upOver x y e c = cutterUp true x y c e
 
 up-inv : (x y e : ℕ) (c : Bool) (copper : Mask) (sheet : List ℕ) (map : List ℤ) → sound (upOver x y e c) ≡ true → c ≡ not (eqb e 0)
     → ((i j : ℕ) → i < x → j < y → copperOf sheet x i j ≡ copper i j)
@@ -85,12 +98,18 @@ module _ {b : Board} {w : World} (inv : Inv b w) where
       go false true e f = let z = eqb-true (answer c w) 35 f in rw z (when-35 z)
       go false false e f = rw (refused c w e f) inv
 
-  -- a call that answers neither 34 nor 35 and brings no cutter down
-  quiet-step : (c : Call) → Quiet (answer c w) → Safe c b → (answer c w ≡ 0 → Inv (done c b) (left c 0 w)) → StepHolds c b w
-  quiet-step c quiet safe when-done = record {
-    claim = record { safe = λ e. safe; fair = λ e. absurd (eqb-false _ 34 (quiet .no-34) e) };
-    next = after-inv c when-done (λ e. absurd (eqb-false _ 35 (quiet .no-35) e));
+  -- a call that never answers 35
+  step-holds : (c : Call) → eqb (answer c w) 35 ≡ false → (answer c w ≡ 0 → Safe c b × Inv (done c b) (left c 0 w)) → (answer c w ≡ 34 → Fair c b) → StepHolds c b w
+  step-holds c no-35 when-done when-34 = record {
+    claim = record { safe = λ e. when-done e .0; fair = when-34 };
+    next = after-inv c (λ e. when-done e .1) (λ e. absurd (eqb-false _ 35 no-35 e));
   }
+
+  -- a call that answers neither 34 nor 35 and visits no pixel
+  quiet-step : (c : Call) → eqb (answer c w) 34 ≡ false → eqb (answer c w) 35 ≡ false → ((x y q : ℕ) → Visits c (b .cutter) x y q → ⊥)
+      → (answer c w ≡ 0 → Inv (done c b) (left c 0 w)) → StepHolds c b w
+  quiet-step c no-34 no-35 still when-done =
+      step-holds c no-35 (λ e. ((λ x y q v. absurd (still x y q v)), when-done e)) (λ e. absurd (eqb-false _ 34 no-34 e))
 
   -- the session is stale, the board has the sheet's new copper
   stale-inv : active s ≡ true → (sheet : List ℕ) (map : List ℤ) (copper : Mask)
@@ -103,7 +122,10 @@ module _ {b : Board} {w : World} (inv : Inv b w) where
   -- ---- open
 
   pub open-step : (x y : ℕ) (o : Option Lent) → StepHolds (opening x y o) b w
-  open-step x y o = quiet-step (opening x y o) (open-quiet (lentTo o w .sheet) x y) tt (λ e.
+  unfolding openTable
+  open-step x y o =
+      quiet-step (opening x y o) (never 34 (openTable (lentTo o w .sheet) x y) refl refl) (never 35 (openTable (lentTo o w .sheet) x y) refl refl) (λ a c q. elim [ ])
+      (λ e.
       let g = open-granted (lentTo o w .sheet) x y e in
       up-inv x y 0 false (λ i j. false) (bare (lentTo o w .sheet)) (lentTo o w .map) (open-sound x y (g .0)) refl
       (λ i j k l. bare-copper x y i j k l (lentTo o w .sheet) (g .1)) (λ c. absurd (true≢false (sym c))))
@@ -120,82 +142,92 @@ module _ {b : Board} {w : World} (inv : Inv b w) where
 
   module _ (x y cols rows : ℕ) where
     fill-inv : (v : ℕ) (copper : Mask) → ((i j : ℕ) → cond (inRectangle x y cols rows i j) (not (eqb v 0)) (b .copper i j) ≡ copper i j)
-        → session.fillAnswer s (w .sheet) x y cols rows ≡ 0
-        → Inv (recoppered copper b) (world (stale s) (session.filledBy s x y cols rows v (w .sheet)) (w .map))
+        → firstOf (fillTable s (w .sheet) x y cols rows) ≡ 0
+        → Inv (recoppered copper b) (world (stale s) (filledBy s x y cols rows v (w .sheet)) (w .map))
     fill-inv v copper rule e =
         stale-inv (fill-granted s (w .sheet) x y cols rows refl e .open-sheet) _ (w .map) copper
         (λ i j k l. filled-copper (s .width) (s .height) i j k l x y cols rows v (w .sheet) ∙ rw (same i j k l) (rule i j))
 
+    no-34 : eqb (firstOf (fillTable s (w .sheet) x y cols rows)) 34 ≡ false
+    unfolding fillTable
+    no-34 = never 34 (fillTable s (w .sheet) x y cols rows) refl refl
+
+    no-35 : eqb (firstOf (fillTable s (w .sheet) x y cols rows)) 35 ≡ false
+    unfolding fillTable
+    no-35 = never 35 (fillTable s (w .sheet) x y cols rows) refl refl
+
     pub paint-step : StepHolds (paint x y cols rows) b w
     paint-step =
-        quiet-step (paint x y cols rows) (fill-quiet s (w .sheet) x y cols rows) tt
+        quiet-step (paint x y cols rows) no-34 no-35 (λ a c q. elim [ ])
         (fill-inv 1 _ (λ i j. painted (inRectangle x y cols rows i j) (b .copper i j)))
 
     pub erase-step : StepHolds (erase x y cols rows) b w
     erase-step =
-        quiet-step (erase x y cols rows) (fill-quiet s (w .sheet) x y cols rows) tt
+        quiet-step (erase x y cols rows) no-34 no-35 (λ a c q. elim [ ])
         (fill-inv 0 _ (λ i j. erased (inRectangle x y cols rows i j) (b .copper i j)))
 
   -- ---- expand and shrink
 
   module _ (q : ℕ) (scratch : List ℤ) where
     resize-inv : (sheet : List ℕ) (copper : Mask) → ((i j : ℕ) → i < s .width → j < s .height → copperOf sheet (s .width) i j ≡ copper i j)
-        → session.resizeAnswer s (w .sheet) (w .map) scratch q ≡ 0
+        → firstOf (resizeTable s (w .sheet) (w .map) scratch q) ≡ 0
         → Inv (recoppered copper b) (world (stale s) sheet (unmapped (w .map)))
     resize-inv sheet copper new e =
         stale-inv (resize-granted s (w .sheet) (w .map) scratch q refl e .open-sheet) sheet (unmapped (w .map)) copper new
 
+    never-34 : eqb (firstOf (resizeTable s (w .sheet) (w .map) scratch q)) 34 ≡ false
+    unfolding resizeTable
+    never-34 = never 34 (resizeTable s (w .sheet) (w .map) scratch q) refl refl
+
+    never-35 : eqb (firstOf (resizeTable s (w .sheet) (w .map) scratch q)) 35 ≡ false
+    unfolding resizeTable
+    never-35 = never 35 (resizeTable s (w .sheet) (w .map) scratch q) refl refl
+
     pub expand-step : StepHolds (expand q scratch) b w
     expand-step =
-        quiet-step (expand q scratch) (resize-quiet s (w .sheet) (w .map) scratch q) tt
+        quiet-step (expand q scratch) never-34 never-35 (λ a c r. elim [ ])
         (resize-inv _ _ (λ i j k l. rw (← inv .agree .width, ← inv .agree .height) (expanded-copper (s .width) (s .height) i j k l q (w .sheet) (b .copper) same)))
 
     pub shrink-step : StepHolds (shrink q scratch) b w
     shrink-step =
-        quiet-step (shrink q scratch) (resize-quiet s (w .sheet) (w .map) scratch q) tt
+        quiet-step (shrink q scratch) never-34 never-35 (λ a c r. elim [ ])
         (resize-inv _ _ (λ i j k l. rw (← inv .agree .width, ← inv .agree .height) (shrunk-copper (s .width) (s .height) i j k l q (w .sheet) (b .copper) same)))
 
   -- ---- calls that change nothing here
 
   pub skeleton-step : (out : List ℕ) → StepHolds (skeleton out) b w
-  skeleton-step out = quiet-step (skeleton out) (read-quiet s (w .map) (session.notSheet s out)) tt (λ e. inv)
+  unfolding readTable
+  skeleton-step out =
+      quiet-step (skeleton out) (never 34 (tableOf (skeleton out) w) refl refl) (never 35 (tableOf (skeleton out) w) refl refl) (λ a c q. elim [ ]) (λ e. inv)
 
   pub rebuild-step : (marks out : List ℕ) → StepHolds (rebuild marks out) b w
-  rebuild-step marks out = quiet-step (rebuild marks out) (read-quiet s (w .map) (session.notSheet s marks || session.notSheet s out)) tt (λ e. inv)
+  unfolding readTable
+  rebuild-step marks out =
+      quiet-step (rebuild marks out) (never 34 (tableOf (rebuild marks out) w) refl refl) (never 35 (tableOf (rebuild marks out) w) refl refl) (λ a c q. elim [ ]) (λ e. inv)
 
   pub aside-step : StepHolds aside b w
-  aside-step = quiet-step aside (record { no-34 = refl; no-35 = refl }) tt (λ e. inv)
+  aside-step = quiet-step aside (never 34 (tableOf aside w) refl refl) (never 35 (tableOf aside w) refl refl) (λ a c q. elim [ ]) (λ e. inv)
 
   -- ---- build
 
   module _ (e : ℕ) (scratch : List ℤ) where
-    abbrev left-range : Bool
-    left-range = session.overflows s (w .sheet) e
-
-    abbrev refusal : ℕ
-    refusal = session.buildRefusal s (w .sheet) (w .map) scratch e
-
-    granted : refusal ≡ 0 → Building s (w .sheet) (w .map) scratch e
-    granted = build-granted s (w .sheet) (w .map) scratch e refl
-
-    built-inv : Building s (w .sheet) (w .map) scratch e → Inv (done (build e scratch) b) (world (builtBy e s) (w .sheet) (session.engineMap s (w .sheet) e))
+    built-inv : Building s (w .sheet) (w .map) scratch e → Inv (done (build e scratch) b) (world (builtBy e s) (w .sheet) (engineMap s (w .sheet) e))
     built-inv g =
         rw (← inv .agree .width, ← inv .agree .height)
-        (up-inv (s .width) (s .height) e true (b .copper) (w .sheet) (session.engineMap s (w .sheet) e) (built-sound s (g .open-sheet) e (g .known))
+        (up-inv (s .width) (s .height) e true (b .copper) (w .sheet) (engineMap s (w .sheet) e) (built-sound s (g .open-sheet) e (g .known))
         (rw (ne-eqb e 0 (omega (arith, leb-true 1 e (and-left (leb 1 e) _ (g .known)))))) same
         (λ c. record { whole = g .held; map-is = refl }))
 
     pub build-step : StepHolds (build e scratch) b w
-    unfolding buildAnswer
+    unfolding buildTable buildRows
     build-step = record {
       claim = record {
-        safe = λ p. tt;
-        fair = λ p. eqb-false _ 34 (last-never refusal left-range 35 (omega arith) 34 (omega arith) (build-quiet s (w .sheet) (w .map) scratch e .no-34) refl) p;
+        safe = λ p x y q. elim [ ];
+        fair = λ p. absurd (eqb-false _ 34 (never 34 (tableOf (build e scratch) w) refl refl) p);
       };
       next = after-inv (build e scratch)
-          (λ p. built-inv (granted (last-done refusal left-range 35 (omega arith) p .0)))
-          (λ p. let r = last-holds refusal left-range 35 (omega arith) (build-quiet s (w .sheet) (w .map) scratch e .no-35) p in
-          stale-inv (granted (r .0) .open-sheet) (w .sheet) (unmapped (w .map)) (b .copper) same);
+          (λ p. built-inv (build-done s (w .sheet) (w .map) scratch e p .0))
+          (λ p. stale-inv (build-overflows s (w .sheet) (w .map) scratch e p .open-sheet) (w .sheet) (unmapped (w .map)) (b .copper) same);
     }
 
   -- ---- lift, place and run: the cutter alone changes
@@ -220,96 +252,97 @@ module _ {b : Board} {w : World} (inv : Inv b w) where
 
   pub lift-step : StepHolds lift b w
   lift-step =
-      quiet-step lift (record { no-34 = refl; no-35 = refl }) tt
+      quiet-step lift (never 34 (tableOf lift w) refl refl) (never 35 (tableOf lift w) refl refl) (λ a c q. elim [ ])
       (λ e. rw (inv .fine) (cutter-inv false 0 0 0 up refl (up-sound s (inv .fine)) (λ l. absurd (true≢false (sym l)))))
 
-  -- ---- place and run: the gates, which give 34
-
-  gate-step : (c : Call) (refusal : ℕ) (stops : Bool) → answer c w ≡ lastOf refusal stops 34 → Quiet refusal
-      → (refusal ≡ 0 → stops ≡ false → Safe c b × Inv (done c b) (left c 0 w))
-      → (refusal ≡ 0 → stops ≡ true → Fair c b)
-      → StepHolds c b w
-  gate-step c refusal stops table quiet goes fair = record {
-    claim = record {
-      safe = λ e. go e .0;
-      fair = λ e. let r = last-holds refusal stops 34 (omega arith) (quiet .no-34) (sym table ∙ e) in fair (r .0) (r .1);
-    };
-    next = after-inv c (λ e. go e .1)
-        (λ e. absurd (eqb-false _ 35 (last-never refusal stops 34 (omega arith) 35 (omega arith) (quiet .no-35) refl) (sym table ∙ e)));
-  }
-    where
-      go : answer c w ≡ 0 → Safe c b × Inv (done c b) (left c 0 w)
-      go e = let r = last-done refusal stops 34 (omega arith) (sym table ∙ e) in goes (r .0) (r .1)
-
   pub place-step : (x y q : ℕ) → StepHolds (place x y q) b w
-  unfolding placeAnswer
+  unfolding placeTable placeRows
   place-step x y q =
-      gate-step (place x y q) (session.placeRefusal s (w .map) x y q) (not (mayStand (cutterOf s x y q) (w .map))) refl
-      (place-quiet s (w .map) x y q)
-      (λ z p.
-      let g = place-granted s (w .map) x y q refl z in
-      let free = passed-clear inv (g .open-sheet) (g .current) x y q (g .across) (g .down) (not-false _ p) in (
-        above inv q x y free,
-        cutter-inv true x y q (down x y q) (refl, (refl, (refl, refl)))
+      step-holds (place x y q) (never 35 (tableOf (place x y q) w) refl refl)
+      (λ e.
+      let r = place-done s (w .map) x y q e in
+      let g = r .0 in
+      let free = passed-clear inv (g .open-sheet) (g .current) x y q (g .across) (g .down) (r .1) in (
+        at-pixel (λ i j p. Clear (b .copper) (b .width) (b .height) i j p) x y q (above inv q x y free),
+        cutter-inv true x y q (down (pos x, pos y) q) (refl, (refl, refl))
             (down-sound s (inv .fine) x y q (g .current) (g .across) (g .down) (g .small)) (λ l. free),
       ))
-      (λ z p. let g = place-granted s (w .map) x y q refl z in failed-close inv (g .open-sheet) (g .current) x y q (g .across) (g .down) (not-true _ p))
+      (λ e.
+      let r = place-stopped s (w .map) x y q e in
+      let g = r .0 in record {
+        x = x;
+        y = y;
+        q = q;
+        visited = at-place x y q (b .cutter);
+        close = failed-close inv (g .open-sheet) (g .current) x y q (g .across) (g .down) (r .1);
+      })
 
   module _ (d n : ℕ) where
-    abbrev stops : Bool
-    stops = blocked (ownCutter s) (w .map) d n
-
     -- the cutter may stand where i steps end
     abbrev free : ℕ → Bool
-    free i = mayStand (cutter.cutterAfter d i (ownCutter s)) (w .map)
+    free i = mayStand (cutterAfter d i (ownCutter s)) (w .map)
+
+    -- single steps lead to the pixels that the code works out
+    steps-reach : RunGranted s (w .map) d n → (i : ℕ) → i ≤ n → walk d i (pos (s .x), pos (s .y)) ≡ (pos (columnAfter d i (s .x)), pos (rowAfter d i (s .y)))
+    steps-reach g i high = reached (ownCutter s) d (g .on .known) (g .cutter .across) (g .cutter .down) n (g .stays) i high
 
     -- each step of a run that is done ends free of copper
-    frees : Running s (w .map) d n → stops ≡ false → (i : ℕ) → 1 ≤ i → i ≤ n → Free w (columnAfter d i (s .x)) (rowAfter d i (s .y))
+    frees : RunGranted s (w .map) d n → blocked (ownCutter s) (w .map) d n ≡ false → (i x y : ℕ) → 1 ≤ i → i ≤ n
+        → walk d i (pos (s .x), pos (s .y)) ≡ (pos x, pos y) → Free w x y
     unfolding blocked
-    frees g none i low high =
+    frees g none i x y low high at =
         let o = on-the-way (g .on) high in
         let k : i - 1 + 1 ≡ i = omega arith in
         let f = any-false n (λ j. not (free (j + 1))) (i - 1) none (omega arith) in
         let p : free i ≡ true = not-false _ (rw k at f) in
-        passed-clear inv (g .open-sheet) (g .cutter .current) (columnAfter d i (s .x)) (rowAfter d i (s .y)) (s .q) (o .end .across) (o .end .down) p
+        let e = sym (steps-reach g i high) ∙ at in
+        rw (← ap (λ (t : ℤ × ℤ). natAbs (t .0)) e, ← ap (λ (t : ℤ × ℤ). natAbs (t .1)) e)
+        (passed-clear inv (g .open-sheet) (g .cutter .current) (columnAfter d i (s .x)) (rowAfter d i (s .y)) (s .q) (o .end .across) (o .end .down) p)
 
-    run-above : (k : BoardCutter) → SameCutter k s → ((i : ℕ) → 1 ≤ i → i ≤ n → Free w (columnAfter d i (s .x)) (rowAfter d i (s .y))) → Along b d n k
-    run-above up e f = tt
-    run-above (down x y q) (l, (a, (c, e))) f = λ i low high. rw (← a, ← c, ← e) (above inv (s .q) _ _ (f i low high))
+    run-safe : RunGranted s (w .map) d n → blocked (ownCutter s) (w .map) d n ≡ false → Safe (run d n) b
+    run-safe g none = at-steps (λ x y q. Clear (b .copper) (b .width) (b .height) x y q) d n (λ start q k i x y low high at.
+        let c = subst (λ (t : BoardCutter). SameCutter t s) k (inv .agree .cutter) in
+        rw (← c .1 .1) (above inv (s .q) x y (frees g none i x y low high (rw (← c .1 .0) at))))
 
     -- one that is stopped has a step that ends too near to copper
-    stopped : (k : BoardCutter) → SameCutter k s → Running s (w .map) d n → stops ≡ true → Stopped b d n k
+    stopped : (k : BoardCutter) → b .cutter ≡ k → SameCutter k s → RunGranted s (w .map) d n → blocked (ownCutter s) (w .map) d n ≡ true → Fair (run d n) b
     unfolding blocked
-    stopped up e g p = true≢false (sym (g .lowered) ∙ e)
-    stopped (down x y q) (l, (a, (c, e))) g p =
+    stopped up c e g p = absurd (true≢false (sym (g .lowered) ∙ e))
+    stopped (down start q) c (l, (a, e)) g p =
         let f = any-found n _ p in
-        let o = on-the-way (g .on) (let m : f .witness + 1 ≤ n = omega (arith, f .below) in m) in
+        let high : f .witness + 1 ≤ n = omega (arith, f .below) in
+        let o = on-the-way (g .on) high in
+        let x = columnAfter d (f .witness + 1) (s .x) in
+        let y = rowAfter d (f .witness + 1) (s .y) in
         record {
-          step = f .witness + 1;
-          first = omega arith;
-          last = omega (arith, f .below);
-          close =
-              rw (← a, ← c, ← e)
-              (failed-close inv (g .open-sheet) (g .cutter .current) _ _ (s .q) (o .end .across) (o .end .down) (not-true _ (f .passes)));
+          x = x;
+          y = y;
+          q = q;
+          visited = rw c (at-step d n start q (f .witness + 1) x y (omega arith) high (rw a (steps-reach g (f .witness + 1) high)));
+          close = rw (← e) (failed-close inv (g .open-sheet) (g .cutter .current) x y (s .q) (o .end .across) (o .end .down) (not-true _ (f .passes)));
         }
 
-    moves : (k : BoardCutter) → SameCutter k s → s .lowered ≡ true → SameCutter (cutterRun d n k) (session.runSession s d n)
-    moves up e l = absurd (true≢false (sym l ∙ e))
-    moves (down x y q) (l, (a, (c, e))) m = (refl, (ap (columnAfter d n) a, (ap (rowAfter d n) c, e)))
+    moves : RunGranted s (w .map) d n → (k : BoardCutter) → SameCutter k s → SameCutter (cutterRun d n k) (runSession s d n)
+    moves g up e = absurd (true≢false (sym (g .lowered) ∙ e))
+    moves g (down p q) (l, (a, e)) = (refl, (ap (walk d n) a ∙ steps-reach g n (omega arith), e))
+
+    -- where the run ends
+    ends-free : RunGranted s (w .map) d n → blocked (ownCutter s) (w .map) d n ≡ false → Free w (columnAfter d n (s .x)) (rowAfter d n (s .y))
+    ends-free g none = frees g none n _ _ (g .steps) (omega arith) (steps-reach g n (omega arith))
 
     pub run-step : StepHolds (run d n) b w
-    unfolding runAnswer
+    unfolding runTable runRows
     run-step =
-        gate-step (run d n) (session.runRefusal s (w .map) d n) stops refl (run-quiet s (w .map) d n)
-        (λ z p.
-        let g = run-granted s (w .map) d n refl z in (
-          run-above (b .cutter) (inv .agree .cutter) (frees g p),
-          cutter-inv true (columnAfter d n (s .x)) (rowAfter d n (s .y)) (s .q) (cutterRun d n (b .cutter)) (moves (b .cutter) (inv .agree .cutter) (g .lowered))
+        step-holds (run d n) (never 35 (tableOf (run d n) w) refl refl)
+        (λ e.
+        let r = run-done s (w .map) d n e in
+        let g = r .0 in (
+          run-safe g (r .1),
+          cutter-inv true (columnAfter d n (s .x)) (rowAfter d n (s .y)) (s .q) (cutterRun d n (b .cutter)) (moves g (b .cutter) (inv .agree .cutter))
               (down-sound s (inv .fine) (columnAfter d n (s .x)) (rowAfter d n (s .y)) (s .q) (g .cutter .current) (g .on .end .across) (g .on .end .down) (g .cutter .small))
-              (λ l. frees g p n (g .steps) (omega arith)),
+              (λ l. ends-free g (r .1)),
         ))
-        (λ z p. stopped (b .cutter) (inv .agree .cutter) (run-granted s (w .map) d n refl z) p)
+        (λ e. let r = run-stopped s (w .map) d n e in stopped (b .cutter) refl (inv .agree .cutter) (r .0) (r .1))
 
-    pub run-free : runAnswer s (w .map) d n ≡ 0 → (i : ℕ) → 1 ≤ i → i ≤ n → Free w (columnAfter d i (s .x)) (rowAfter d i (s .y))
-    unfolding runAnswer
-    run-free e = let r = last-done (session.runRefusal s (w .map) d n) stops 34 (omega arith) e in frees (run-granted s (w .map) d n refl (r .0)) (r .1)
+    pub run-free : firstOf (runTable s (w .map) d n) ≡ 0 → (i x y : ℕ) → 1 ≤ i → i ≤ n → walk d i (pos (s .x), pos (s .y)) ≡ (pos x, pos y) → Free w x y
+    run-free e = let r = run-done s (w .map) d n e in frees (r .0) (r .1)

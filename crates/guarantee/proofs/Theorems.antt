@@ -7,9 +7,9 @@ use Prim.Native.Nat.{ℕ}
 use native.Mathlib.Omega.{arith}
 use lib.IntN.{ℤ}
 use Rattle.session.specs.State.{fresh, cutterSound, mapSound, sheetSound, sound}
-use Rattle.guarantee.specs.Board.{Call, opening, paint, erase, build, place, run, lift, expand, shrink, skeleton, rebuild, aside, Board, blank}
-use Rattle.guarantee.specs.World.{World, world}
-use Rattle.guarantee.specs.Claims.{ClaimsHold, Guarantee, leftBy, Workshop}
+use Rattle.session.specs.Lists.{Call, opening, paint, erase, build, place, run, lift, expand, shrink, skeleton, rebuild, aside, World, world, leftBy}
+use Rattle.guarantee.specs.Board.{Board, blank}
+use Rattle.guarantee.specs.Claims.{ClaimsHold, Guarantee, Workshop}
 use Rattle.guarantee.proofs.Invariant.{Inv}
 use Rattle.guarantee.proofs.Steps.{
   StepHolds,

@@ -12,7 +12,7 @@ use Rattle.skeleton.specs.Skeleton.{skeletonOf}
 use Rattle.radius.specs.Radius.{radiusQ}
 use Rattle.cutter.specs.Gates.{passesAt}
 use Rattle.session.specs.State.{openedAs}
-use Rattle.session.specs.Calls.{engineMap}
+use Rattle.session.specs.Maps.{engineMap}
 
 -- 4 × 4 with copper at (3, 0), (0, 3) and (2, 2): its map by an engine
 unfoldable pub four : (engine : ℕ) → List ℤ

@@ -1,5 +1,5 @@
--- `Run` is document 01's; `Obey` is what the functions below `run` promise each other.
+-- `Run` is document 01's; `Execute` is what the functions below `run` promise each other.
 pub mod Run
-pub mod Obey
-pub mod ObeyLaws
+pub mod Execute
+pub mod ExecuteLaws
 pub mod RunLaws

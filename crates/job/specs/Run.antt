@@ -1,5 +1,5 @@
 -- Running a job: document 01, "Job file" and "Lists of calls". Which list of calls the records mean, what is printed of it and what it leaves in the lent
--- buffers. Answers and effects of a call are those of `guarantee`.
+-- buffers. Answers and effects of a call are those of `session`.
 -- Assumes nothing.
 use mathlib.Core.List.{List, [], _∷_, _++_}
 use mathlib.Core.Option.{some}
@@ -8,90 +8,63 @@ use Prim.Native.Nat.{ℕ, _+_, _*_}
 use lib.Dec.{eqb, ltb}
 use lib.IntN.{ℤ}
 use lib.ListN.{length, take, drop}
-use Rattle.exact.specs.Nearest.{cleared}
-use Rattle.session.specs.declared.Session.{Session}
-use Rattle.session.specs.Calls.{onDone, buildScratch}
-use Rattle.session.specs.State.{fresh}
 use Rattle.raster.specs.Refusal.{firstOf}
-use Rattle.guarantee.specs.Board as calls
-use Rattle.guarantee.specs.World.{World, world, answer, worldAfter}
-use Rattle.records.specs.Format.{Record, opening, paint, erase, build, place, run, lift, expand, shrink, isJob, recordsOf}
+use Rattle.session.specs.declared.Session.{Session}
+use Rattle.session.specs.State.{fresh}
+use Rattle.session.specs.Calls.{onDone}
+use Rattle.session.specs.Lists as calls
+use Rattle.session.specs.Lists.{World, world, answer, worldAfter, scratchAfter}
+use Rattle.records.specs.declared.Record.{Record}
+use Rattle.records.specs.declared.Record.the-variants.{Open, Paint, Erase, Build, Place, Run, Lift, Expand, Shrink}
+use Rattle.records.specs.Format.{isJob, recordsOf}
 use Rattle.records.specs.Text.{answerLine, textFrom}
 
--- what a job is run on: the world of its list of calls, the sheet and map buffers behind the parts that are lent, and the scratch buffer
-pub record JobState : Type 0 where
-  pub world : World
+-- the sheet and map buffers behind the parts that are lent
+pub record Behind : Type 0 where
   pub sheet : List ℕ
   pub map : List ℤ
+
+-- what a job is run on: the world of its list of calls, the rest of the buffers, and the scratch buffer, which is lent whole
+pub record JobState : Type 0 where
+  pub world : World
+  pub behind : Behind
   pub scratch : List ℤ
 
 -- a session with buffers of which the first n bytes and 2 × n numbers are lent
 abbrev pub jobState : Session → (n : ℕ) → List ℕ → (map scratch : List ℤ) → JobState
 jobState s n sheet map scratch =
-    record { world = world s (take n sheet) (take (2 * n) map); sheet = drop n sheet; map = drop (2 * n) map; scratch = scratch }
+    record { world = world s (take n sheet) (take (2 * n) map); behind = record { sheet = drop n sheet; map = drop (2 * n) map }; scratch = scratch }
 
 -- the whole buffers
 abbrev pub sheetBuffer : JobState → List ℕ
-sheetBuffer b = b .world .sheet ++ b .sheet
+sheetBuffer b = b .world .sheet ++ b .behind .sheet
 
 abbrev pub mapBuffer : JobState → List ℤ
-mapBuffer b = b .world .map ++ b .map
-
--- the scratch that goes with the open sheet
-abbrev pub lentScratch : JobState → List ℤ
-lentScratch b = take (length (b .world .sheet)) (b .scratch)
+mapBuffer b = b .world .map ++ b .behind .map
 
 -- the call that a record means: an opening comes with the first w × h bytes and 2 × w × h numbers, or with the whole of a shorter buffer
 abbrev pub callOf : Record → JobState → calls.Call
-callOf (opening w h) b =
-    calls.opening w h (some (record { sheet = take (h * w) (sheetBuffer b); map = take (2 * (h * w)) (mapBuffer b) }))
-callOf (paint x y c r) b = calls.paint x y c r
-callOf (erase x y c r) b = calls.erase x y c r
-callOf (build e) b = calls.build e (lentScratch b)
-callOf (place x y q) b = calls.place x y q
-callOf (run d n) b = calls.run d n
-callOf lift b = calls.lift
-callOf (expand q) b = calls.expand q (lentScratch b)
-callOf (shrink q) b = calls.shrink q (lentScratch b)
+callOf (Open w h) b = calls.opening w h (some (record { sheet = take (h * w) (sheetBuffer b); map = take (2 * (h * w)) (mapBuffer b) }))
+callOf (Paint x y c r) b = calls.paint x y c r
+callOf (Erase x y c r) b = calls.erase x y c r
+callOf (Build e) b = calls.build e (b .scratch)
+callOf (Place x y q) b = calls.place x y q
+callOf (Run d n) b = calls.run d n
+callOf Lift b = calls.lift
+callOf (Expand q) b = calls.expand q (b .scratch)
+callOf (Shrink q) b = calls.shrink q (b .scratch)
 
 -- behind the lent parts, after a record with its answer: an opening that is done takes other parts
-abbrev pub sheetBehind : Record → (answer : ℕ) → JobState → List ℕ
-sheetBehind (opening w h) a b = onDone a (drop (h * w) (sheetBuffer b)) (b .sheet)
-sheetBehind (paint x y c r) a b = b .sheet
-sheetBehind (erase x y c r) a b = b .sheet
-sheetBehind (build e) a b = b .sheet
-sheetBehind (place x y q) a b = b .sheet
-sheetBehind (run d n) a b = b .sheet
-sheetBehind lift a b = b .sheet
-sheetBehind (expand q) a b = b .sheet
-sheetBehind (shrink q) a b = b .sheet
-
-abbrev pub mapBehind : Record → (answer : ℕ) → JobState → List ℤ
-mapBehind (opening w h) a b = onDone a (drop (2 * (h * w)) (mapBuffer b)) (b .map)
-mapBehind (paint x y c r) a b = b .map
-mapBehind (erase x y c r) a b = b .map
-mapBehind (build e) a b = b .map
-mapBehind (place x y q) a b = b .map
-mapBehind (run d n) a b = b .map
-mapBehind lift a b = b .map
-mapBehind (expand q) a b = b .map
-mapBehind (shrink q) a b = b .map
-
--- the scratch buffer after a record with its answer
-abbrev pub scratchAfter : Record → (answer : ℕ) → JobState → List ℤ
-scratchAfter (build e) a b = buildScratch (b .world .session) (lentScratch b) e a ++ drop (length (b .world .sheet)) (b .scratch)
-scratchAfter (expand q) a b =
-    onDone a (cleared (b .world .session .height * b .world .session .width) (lentScratch b)) (lentScratch b)
-    ++ drop (length (b .world .sheet)) (b .scratch)
-scratchAfter (shrink q) a b =
-    onDone a (cleared (b .world .session .height * b .world .session .width) (lentScratch b)) (lentScratch b)
-    ++ drop (length (b .world .sheet)) (b .scratch)
-scratchAfter (opening w h) a b = b .scratch
-scratchAfter (paint x y c r) a b = b .scratch
-scratchAfter (erase x y c r) a b = b .scratch
-scratchAfter (place x y q) a b = b .scratch
-scratchAfter (run d n) a b = b .scratch
-scratchAfter lift a b = b .scratch
+abbrev pub behindAfter : Record → (answer : ℕ) → JobState → Behind
+behindAfter (Open w h) a b = onDone a (record { sheet = drop (h * w) (sheetBuffer b); map = drop (2 * (h * w)) (mapBuffer b) }) (b .behind)
+behindAfter (Paint x y c r) a b = b .behind
+behindAfter (Erase x y c r) a b = b .behind
+behindAfter (Build e) a b = b .behind
+behindAfter (Place x y q) a b = b .behind
+behindAfter (Run d n) a b = b .behind
+behindAfter Lift a b = b .behind
+behindAfter (Expand q) a b = b .behind
+behindAfter (Shrink q) a b = b .behind
 
 -- what a record answers
 abbrev pub answerOf : Record → JobState → ℕ
@@ -102,9 +75,8 @@ abbrev pub stepped : Record → JobState → JobState
 stepped o b =
     record {
       world = worldAfter (callOf o b) (b .world);
-      sheet = sheetBehind o (answerOf o b) b;
-      map = mapBehind o (answerOf o b) b;
-      scratch = scratchAfter o (answerOf o b) b;
+      behind = behindAfter o (answerOf o b) b;
+      scratch = scratchAfter (callOf o b) (b .scratch) (b .world);
     }
 
 -- ---- a list of records

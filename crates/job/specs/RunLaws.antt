@@ -10,61 +10,41 @@ use lib.IntN.{ℤ}
 use lib.ListN.{length, take, drop, length-drop, take-append-drop}
 use lib.Seq.{length-take-le, drop-drop}
 use borrow.Author.Tests.{lt-ltb, le-ltb, ltb-true, leb-true}
-use Rattle.raster.specs.Refusal.{firstOf, lastOf}
-use Rattle.raster.specs.RefusalLaws.{every, first-every, last-every}
+use Rattle.raster.specs.Refusal.{Table, firstOf}
+use Rattle.raster.specs.RefusalLaws.{every, first-every}
 use Rattle.raster.specs.Tests.{and-left, and-right}
-use Rattle.cutter.specs.Gates.{mayStand, blocked}
 use Rattle.session.specs.declared.Session.{Session}
-use Rattle.session.specs.Calls.{
-  overflows,
-  cutterOf,
-  ownCutter,
-  openAnswer,
-  fillAnswer,
-  buildRefusal,
-  buildAnswer,
-  placeRefusal,
-  placeAnswer,
-  runRefusal,
-  runAnswer,
-  resizeAnswer,
-  readAnswer,
-}
-use Rattle.guarantee.specs.Board as calls
-use Rattle.guarantee.specs.Claims.{leftBy}
-use Rattle.guarantee.specs.World.{World, answer}
-use Rattle.records.specs.Format.{Record, lengthHere, Here, recordHere, recordsIn, isJob, recordsOf}
-use Rattle.records.specs.FormatLaws.{here, size-fits, splits-turn, records-turn, splits-not, records-end}
+use Rattle.session.specs.Refusals.{openTable, fillTable, buildRows, buildTable, placeRows, placeTable, runRows, runTable, resizeTable, readTable}
+use Rattle.session.specs.Lists as calls
+use Rattle.session.specs.Lists.{World, tableOf, answer, leftBy}
+use Rattle.records.specs.declared.Record.{Record}
+use Rattle.records.specs.declared.Reading.the-variants.{Broken}
+use Rattle.records.specs.Format.{lengthHere, recordHere, readHere, recordsIn, isJob, recordsOf}
+use Rattle.records.specs.FormatLaws.{size-fits, splits-turn, records-turn, splits-not, records-end, broken-is}
 use Rattle.records.specs.Text.{answerLine, textFrom, Put}
 use Rattle.records.specs.TextLaws.{nine-bytes}
 use Rattle.job.specs.Run.{JobState, jobState, callOf, callsOf, stateAfter, answersOf, reportOf, stepped, roomFor, ranAnswer}
-use Rattle.job.specs.Obey.{Executed, Left, Running}
+use Rattle.job.specs.Execute.{Executed, Buffers, JobRunning}
 
 -- ---- no answer has more than two digits
 
-first-small : (table : List (Bool × ℕ)) → every (λ n. ltb n 100) table ≡ true → firstOf table < 100
-first-small table e = ltb-true (firstOf table) 100 (first-every (λ n. ltb n 100) table refl e)
-
-last-small : (r : ℕ) (when : Bool) (number : ℕ) → r < 100 → number < 100 → lastOf r when number < 100
-last-small r when number f g = last-every (λ n. n < 100) r when number (omega arith) f g
+small : (c : calls.Call) (w : World) → every (λ n. ltb n 100) (tableOf c w) ≡ true
+unfolding openTable fillTable buildRows buildTable placeRows placeTable runRows runTable resizeTable readTable
+small (calls.opening a b o) w = refl
+small (calls.paint x y c r) w = refl
+small (calls.erase x y c r) w = refl
+small (calls.build e s) w = refl
+small (calls.place x y q) w = refl
+small (calls.run d n) w = refl
+small calls.lift w = refl
+small (calls.expand q s) w = refl
+small (calls.shrink q s) w = refl
+small (calls.skeleton o) w = refl
+small (calls.rebuild m o) w = refl
+small calls.aside w = refl
 
 pub two-digits : (c : calls.Call) (w : World) → answer c w < 100
-unfolding openAnswer fillAnswer buildRefusal buildAnswer placeRefusal placeAnswer runRefusal runAnswer resizeAnswer readAnswer
-two-digits (calls.opening a b o) w = first-small _ refl
-two-digits (calls.paint x y c r) w = first-small _ refl
-two-digits (calls.erase x y c r) w = first-small _ refl
-two-digits (calls.build e s) w =
-    last-small (buildRefusal (w .session) (w .sheet) (w .map) s e) (overflows (w .session) (w .sheet) e) 35 (first-small _ refl) (omega arith)
-two-digits (calls.place x y q) w =
-    last-small (placeRefusal (w .session) (w .map) x y q) (not (mayStand (cutterOf (w .session) x y q) (w .map))) 34 (first-small _ refl) (omega arith)
-two-digits (calls.run d n) w =
-    last-small (runRefusal (w .session) (w .map) d n) (blocked (ownCutter (w .session)) (w .map) d n) 34 (first-small _ refl) (omega arith)
-two-digits calls.lift w = omega arith
-two-digits (calls.expand q s) w = first-small _ refl
-two-digits (calls.shrink q s) w = first-small _ refl
-two-digits (calls.skeleton o) w = first-small _ refl
-two-digits (calls.rebuild m o) w = first-small _ refl
-two-digits calls.aside w = omega arith
+two-digits c w = ltb-true (answer c w) 100 (first-every (λ n. ltb n 100) (tableOf c w) refl (small c w))
 
 -- ---- the loop
 
@@ -72,7 +52,7 @@ pub job-limit : (job : List ℕ) → isJob job ≡ true → length job ≤ 65536
 unfolding isJob
 job-limit job is = leb-true (length job) 65536 (and-left (leb (length job) 65536) _ is)
 
-pub running-start : (job : List ℕ) (start : JobState) (out : List ℕ) → isJob job ≡ true → Running job start out 0 0 0 start out
+pub running-start : (job : List ℕ) (start : JobState) (out : List ℕ) → isJob job ≡ true → JobRunning job start out 0 0 0 start out
 unfolding isJob recordsOf reportOf
 running-start job start out is =
     let z : length job - 0 ≡ length job = omega arith in record {
@@ -85,7 +65,7 @@ running-start job start out is =
       short = omega arith;
     }
 
-module _ {job : List ℕ} {start : JobState} {empty : List ℕ} {i at end : ℕ} {b : JobState} {out : List ℕ} (r : Running job start empty i at end b out) where
+module _ {job : List ℕ} {start : JobState} {empty : List ℕ} {i at end : ℕ} {b : JobState} {out : List ℕ} (r : JobRunning job start empty i at end b out) where
   module _ (more : at < length job) where
     some-size : {size : ℕ} → size ≡ lengthHere (drop at job) → size ≡ 0 → ⊥
     some-size is z = false≢true (sym (splits-not job i at is more (r .begun .0) z) ∙ r .splitting)
@@ -99,8 +79,9 @@ module _ {job : List ℕ} {start : JobState} {empty : List ℕ} {i at end : ℕ}
     running-line {o} {a} is ob =
         nine-bytes (i + 1) a (omega (arith, job-limit job is, r .begun .0)) (omega (arith, ob .answer, two-digits (callOf o b) (b .world)))
 
-    pub running-here : Here (drop at job)
-    running-here = here (drop at job) refl (some-size refl)
+    -- a record stands there
+    pub running-whole : Broken ≡ readHere (drop at job) → ⊥
+    running-whole e = some-size refl (broken-is (drop at job) e)
 
     -- the next line has its room
     pub running-room : {text : ℕ} → 9 * length (recordsOf job) ≤ length out → text ≤ 9 → end + text ≤ length out
@@ -110,7 +91,7 @@ module _ {job : List ℕ} {start : JobState} {empty : List ℕ} {i at end : ℕ}
 
     pub running-turn : {size a e : ℕ} {next : JobState} {written : List ℕ} → size ≡ lengthHere (drop at job)
         → Executed (recordHere (drop at job)) b a next → Put out end (answerLine (i + 1) a) e written → length (answerLine (i + 1) a) ≤ 9
-        → Running job start empty (i + 1) (at + size) e next written
+        → JobRunning job start empty (i + 1) (at + size) e next written
     unfolding callsOf stateAfter answersOf textFrom
     running-turn {size} {a} {e} {next} {written} is ob p short =
         let some = some-size is in
@@ -145,7 +126,7 @@ module _ {job : List ℕ} {start : JobState} {empty : List ℕ} {i at end : ℕ}
     running-left = rw none-left at (r .state)
 
 -- the buffers that a session works on
-pub buffers : {t : JobState} (s : Session) (n : ℕ) (sheet : List ℕ) (map scratch : List ℤ) → jobState s n sheet map scratch ≡ t → Left t sheet map scratch
+pub buffers : {t : JobState} (s : Session) (n : ℕ) (sheet : List ℕ) (map scratch : List ℤ) → jobState s n sheet map scratch ≡ t → Buffers t sheet map scratch
 buffers s n sheet map scratch e = record {
   sheet-left = rw (← e) (sym (take-append-drop n sheet));
   map-left = rw (← e) (sym (take-append-drop (2 * n) map));

@@ -1,15 +1,19 @@
 // Running a job file (document 01): its records, one after the other, through a session. The public call asks nothing of its caller: any bytes, any lengths.
+//
+// While a job runs, the open sheet has the first n bytes of the sheet buffer and the first 2 × n numbers of the map buffer; the scratch buffer is lent whole.
 ghost use mathlib.Core.Path.{_≡_};
 ghost use mathlib.Core.Bool.{true};
-ghost use Prim.Native.Nat.{_+_, _*_, _≤_, _<_};
-ghost use lib.ListN.{length, take, drop};
-ghost use Rattle.morphology.specs.Resize.{expanded, shrunk};
-ghost use Rattle.session.specs.State.{downAt};
-ghost use Rattle.session.specs.Calls.{onDone, placeAnswer, runAnswer, runSession};
-ghost use Rattle.records.specs.Format.{Here, word, long, recordHere, isJob, recordsOf};
+ghost use mathlib.Core.List.{List};
+ghost use Prim.Native.Nat.{ℕ, _+_, _*_, _≤_, _<_};
+ghost use lib.IntN.{ℤ};
+ghost use lib.ListN.{length};
+ghost use Rattle.records.specs.declared.Record.the-variants.{Open, Paint, Erase, Build, Place, Run, Expand, Shrink};
+ghost use Rattle.records.specs.Format.{isJob, recordsOf};
 ghost use Rattle.records.specs.Text.{written, Put};
 ghost use Rattle.job.specs.Run.{jobState, startState, sheetBuffer, mapBuffer, reportOf, stateAfter, ranAnswer, printed, stateLeft};
-ghost use Rattle.job.specs.Obey.{upto, Executed, Left, Opened, Filled, Built, Resized};
+ghost use Rattle.job.specs.Execute.{upto, Executed, Buffers};
+use records::Reading;
+use records::Record;
 use session::Reply;
 use session::Session;
 
@@ -26,7 +30,7 @@ struct Done {
     session: Session,
 }
 
-// ---- obeying a record: `at` is its place, and the open sheet has the first n bytes of the sheet buffer and 2 × n numbers of the map buffer
+// ---- what is lent
 
 // The first n of a slice, or all of a shorter one.
 fn first(n: usize, len: usize) -> usize
@@ -48,30 +52,11 @@ fn first_pairs(n: usize, len: usize) -> usize
     len
 }
 
-// The pixels of a sheet.
-fn area(w: u16, h: u16) -> usize
-    ensures { λ r. ⌜ r ≡ h * w ⌝ }
+// A session's reply, and how many pixels the open sheet has then.
+fn with_pixels(reply: Reply, n: usize) -> Done
+    ensures { λ r. ⌜ (r .answer ≡ reply .answer) × ((r .pixels ≡ n) × (r .session ≡ reply .session)) ⌝ }
 {
-    (h as usize) * (w as usize)
-}
-
-// Kind 1, open: it is lent as much as its sheet needs; if it is refused, the former parts stay.
-fn obey_open(s: Session, n: usize, job: &[u8], at: usize, sheet: &mut [u8]) -> Done
-    requires { ⌜ (at + 8 ≤ length (now job)) × (n ≤ length (now sheet)) ⌝ }
-    ensures { λ r. ⌜ Opened (word (drop at (now (job .entry))) 4) (word (drop at (now (job .entry))) 6) s n (now (sheet .entry)) r (now (sheet .exit)) ⌝ }
-{
-    let w = records::word_at(job, at, 4);
-    let h = records::word_at(job, at, 6);
-    let pixels = first(area(w, h), sheet.len());
-    let reply = s.open_sheet(&mut sheet[..pixels], w, h);
     let session = reply.session;
-    if reply.answer == 0 {
-        return Done {
-            answer: 0,
-            pixels,
-            session,
-        };
-    }
     Done {
         answer: reply.answer,
         pixels: n,
@@ -79,188 +64,155 @@ fn obey_open(s: Session, n: usize, job: &[u8], at: usize, sheet: &mut [u8]) -> D
     }
 }
 
-// Kind 2, paint.
-fn obey_paint(s: Session, n: usize, job: &[u8], at: usize, sheet: &mut [u8]) -> Reply
-    requires { ⌜ (at + 12 ≤ length (now job)) × (n ≤ length (now sheet)) ⌝ }
-    ensures { λ r. ⌜ Filled 1 (word (drop at (now (job .entry))) 4) (word (drop at (now (job .entry))) 6) (word (drop at (now (job .entry))) 8) (word (drop at (now (job .entry))) 10) s n (now (sheet .entry)) r (now (sheet .exit)) ⌝ }
+// ---- executing a record of each kind. What is not lent to a function stays, whatever it is.
+
+// Open is lent as much as its sheet needs; if it is refused, the former parts stay.
+fn execute_open(s: Session, n: usize, sheet: &mut [u8], w: u16, h: u16) -> Done
+    requires { ⌜ n ≤ length (now sheet) ⌝ }
+    ensures executed { λ r. ⌜ ((map scratch : List ℤ)
+        → Executed (Open w h) (jobState s n (now (sheet .entry)) map scratch) (r .answer)
+        (jobState (r .session) (r .pixels) (now (sheet .exit)) map scratch)) ⌝ }
+    ensures within { λ r. ⌜ r .pixels ≤ length (now (sheet .exit)) ⌝ }
 {
-    let x = records::word_at(job, at, 4);
-    let y = records::word_at(job, at, 6);
-    let cols = records::word_at(job, at, 8);
-    let rows = records::word_at(job, at, 10);
+    let pixels = first(raster::area(w, h), sheet.len());
+    let reply = s.open_sheet(&mut sheet[..pixels], w, h);
+    if reply.answer == 0 {
+        return with_pixels(reply, pixels);
+    }
+    with_pixels(reply, n)
+}
+
+fn execute_paint(
+    s: Session,
+    n: usize,
+    sheet: &mut [u8],
+    x: u16,
+    y: u16,
+    cols: u16,
+    rows: u16,
+) -> Reply
+    requires { ⌜ n ≤ length (now sheet) ⌝ }
+    ensures { λ r. ⌜ ((map scratch : List ℤ)
+        → Executed (Paint x y cols rows) (jobState s n (now (sheet .entry)) map scratch) (r .answer)
+        (jobState (r .session) n (now (sheet .exit)) map scratch)) ⌝ }
+{
     s.paint(&mut sheet[..n], x, y, cols, rows)
 }
 
-// Kind 3, erase.
-fn obey_erase(s: Session, n: usize, job: &[u8], at: usize, sheet: &mut [u8]) -> Reply
-    requires { ⌜ (at + 12 ≤ length (now job)) × (n ≤ length (now sheet)) ⌝ }
-    ensures { λ r. ⌜ Filled 0 (word (drop at (now (job .entry))) 4) (word (drop at (now (job .entry))) 6) (word (drop at (now (job .entry))) 8) (word (drop at (now (job .entry))) 10) s n (now (sheet .entry)) r (now (sheet .exit)) ⌝ }
+fn execute_erase(
+    s: Session,
+    n: usize,
+    sheet: &mut [u8],
+    x: u16,
+    y: u16,
+    cols: u16,
+    rows: u16,
+) -> Reply
+    requires { ⌜ n ≤ length (now sheet) ⌝ }
+    ensures { λ r. ⌜ ((map scratch : List ℤ)
+        → Executed (Erase x y cols rows) (jobState s n (now (sheet .entry)) map scratch) (r .answer)
+        (jobState (r .session) n (now (sheet .exit)) map scratch)) ⌝ }
 {
-    let x = records::word_at(job, at, 4);
-    let y = records::word_at(job, at, 6);
-    let cols = records::word_at(job, at, 8);
-    let rows = records::word_at(job, at, 10);
     s.erase(&mut sheet[..n], x, y, cols, rows)
 }
 
-// Kind 4, build: a map or scratch buffer that is too short is lent whole, for the session to refuse.
-fn obey_build(
+// A map buffer that is too short is lent whole, for the session to refuse; so it is below.
+fn execute_build(
     s: Session,
     n: usize,
-    job: &[u8],
-    at: usize,
     sheet: &[u8],
     map: &mut [i16],
     scratch: &mut [i16],
+    engine: u16,
 ) -> Reply
-    requires { ⌜ (at + 6 ≤ length (now job)) × (n ≤ length (now sheet)) ⌝ }
-    ensures { λ r. ⌜ Built (word (drop at (now (job .entry))) 4) s n (now (sheet .entry)) (now (map .entry)) (now (scratch .entry)) r (now (map .exit)) (now (scratch .exit)) ⌝ }
+    requires { ⌜ n ≤ length (now sheet) ⌝ }
+    ensures { λ r. ⌜ Executed (Build engine) (jobState s n (now (sheet .entry)) (now (map .entry)) (now (scratch .entry))) (r .answer)
+        (jobState (r .session) n (now (sheet .entry)) (now (map .exit)) (now (scratch .exit))) ⌝ }
 {
-    let engine = records::word_at(job, at, 4);
     let numbers = first_pairs(n, map.len());
-    let used = first(n, scratch.len());
-    s.build(
-        &sheet[..n],
-        &mut map[..numbers],
-        &mut scratch[..used],
-        engine,
-    )
+    s.build(&sheet[..n], &mut map[..numbers], scratch, engine)
 }
 
-// Kind 5, place.
-fn obey_place(s: Session, n: usize, job: &[u8], at: usize, map: &[i16]) -> Reply
-    requires { ⌜ at + 12 ≤ length (now job) ⌝ }
-    ensures { λ r. ⌜ r .answer ≡ placeAnswer s (take (2 * n) (now (map .entry))) (word (drop at (now (job .entry))) 4) (word (drop at (now (job .entry))) 6) (long (drop at (now (job .entry))) 8) ⌝ }
-    ensures { λ r. ⌜ r .session ≡ onDone (r .answer) (downAt (word (drop at (now (job .entry))) 4) (word (drop at (now (job .entry))) 6) (long (drop at (now (job .entry))) 8) s) s ⌝ }
+fn execute_place(s: Session, n: usize, map: &[i16], x: u16, y: u16, q: u32) -> Reply
+    ensures { λ r. ⌜ ((sheet : List ℕ) (scratch : List ℤ)
+        → Executed (Place x y q) (jobState s n sheet (now (map .entry)) scratch) (r .answer) (jobState (r .session) n sheet (now (map .entry)) scratch)) ⌝ }
 {
-    let x = records::word_at(job, at, 4);
-    let y = records::word_at(job, at, 6);
-    let q = records::long_at(job, at, 8);
     let numbers = first_pairs(n, map.len());
     s.place(&map[..numbers], x, y, q)
 }
 
-// Kind 6, run.
-fn obey_run(s: Session, n: usize, job: &[u8], at: usize, map: &[i16]) -> Reply
-    requires { ⌜ at + 8 ≤ length (now job) ⌝ }
-    ensures { λ r. ⌜ r .answer ≡ runAnswer s (take (2 * n) (now (map .entry))) (word (drop at (now (job .entry))) 4) (word (drop at (now (job .entry))) 6) ⌝ }
-    ensures { λ r. ⌜ r .session ≡ onDone (r .answer) (runSession s (word (drop at (now (job .entry))) 4) (word (drop at (now (job .entry))) 6)) s ⌝ }
+fn execute_run(s: Session, n: usize, map: &[i16], direction: u16, count: u16) -> Reply
+    ensures { λ r. ⌜ ((sheet : List ℕ) (scratch : List ℤ)
+        → Executed (Run direction count) (jobState s n sheet (now (map .entry)) scratch) (r .answer)
+        (jobState (r .session) n sheet (now (map .entry)) scratch)) ⌝ }
 {
-    let direction = records::word_at(job, at, 4);
-    let count = records::word_at(job, at, 6);
     let numbers = first_pairs(n, map.len());
     s.run(&map[..numbers], direction, count)
 }
 
-// Kind 8, expand.
-fn obey_expand(
+fn execute_expand(
     s: Session,
     n: usize,
-    job: &[u8],
-    at: usize,
     sheet: &mut [u8],
     map: &mut [i16],
     scratch: &mut [i16],
+    q: u32,
 ) -> Reply
-    requires { ⌜ (at + 8 ≤ length (now job)) × (n ≤ length (now sheet)) ⌝ }
-    ensures { λ r. ⌜ Resized (long (drop at (now (job .entry))) 4) s n (now (sheet .entry)) (now (map .entry)) (now (scratch .entry)) r (now (sheet .exit)) (now (map .exit)) (now (scratch .exit)) (λ t. expanded (s .width) (s .height) (long (drop at (now (job .entry))) 4) t) ⌝ }
+    requires { ⌜ n ≤ length (now sheet) ⌝ }
+    ensures { λ r. ⌜ Executed (Expand q) (jobState s n (now (sheet .entry)) (now (map .entry)) (now (scratch .entry))) (r .answer)
+        (jobState (r .session) n (now (sheet .exit)) (now (map .exit)) (now (scratch .exit))) ⌝ }
 {
-    let q = records::long_at(job, at, 4);
     let numbers = first_pairs(n, map.len());
-    let used = first(n, scratch.len());
-    s.expand(
-        &mut sheet[..n],
-        &mut map[..numbers],
-        &mut scratch[..used],
-        q,
-    )
+    s.expand(&mut sheet[..n], &mut map[..numbers], scratch, q)
 }
 
-// Kind 9, shrink.
-fn obey_shrink(
+fn execute_shrink(
     s: Session,
     n: usize,
-    job: &[u8],
-    at: usize,
     sheet: &mut [u8],
     map: &mut [i16],
     scratch: &mut [i16],
+    q: u32,
 ) -> Reply
-    requires { ⌜ (at + 8 ≤ length (now job)) × (n ≤ length (now sheet)) ⌝ }
-    ensures { λ r. ⌜ Resized (long (drop at (now (job .entry))) 4) s n (now (sheet .entry)) (now (map .entry)) (now (scratch .entry)) r (now (sheet .exit)) (now (map .exit)) (now (scratch .exit)) (λ t. shrunk (s .width) (s .height) (long (drop at (now (job .entry))) 4) t) ⌝ }
+    requires { ⌜ n ≤ length (now sheet) ⌝ }
+    ensures { λ r. ⌜ Executed (Shrink q) (jobState s n (now (sheet .entry)) (now (map .entry)) (now (scratch .entry))) (r .answer)
+        (jobState (r .session) n (now (sheet .exit)) (now (map .exit)) (now (scratch .exit))) ⌝ }
 {
-    let q = records::long_at(job, at, 4);
     let numbers = first_pairs(n, map.len());
-    let used = first(n, scratch.len());
-    s.shrink(
-        &mut sheet[..n],
-        &mut map[..numbers],
-        &mut scratch[..used],
-        q,
-    )
+    s.shrink(&mut sheet[..n], &mut map[..numbers], scratch, q)
 }
 
-// Any record but an opening; kind 7 is a lift.
-fn act(
-    s: Session,
-    n: usize,
-    job: &[u8],
-    at: usize,
-    sheet: &mut [u8],
-    map: &mut [i16],
-    scratch: &mut [i16],
-) -> Reply
-    requires { ⌜ Here (drop at (now job)) × ((2 ≤ word (drop at (now job)) 2) × (n ≤ length (now sheet))) ⌝ }
-    ensures { λ r. ⌜ Executed (recordHere (drop at (now (job .entry)))) (jobState s n (now (sheet .entry)) (now (map .entry)) (now (scratch .entry))) (r .answer) (jobState (r .session) n (now (sheet .exit)) (now (map .exit)) (now (scratch .exit))) ⌝ }
-{
-    let kind = records::word_at(job, at, 2);
-    if kind == 2 {
-        return obey_paint(s, n, job, at, sheet);
-    }
-    if kind == 3 {
-        return obey_erase(s, n, job, at, sheet);
-    }
-    if kind == 4 {
-        return obey_build(s, n, job, at, sheet, map, scratch);
-    }
-    if kind == 5 {
-        return obey_place(s, n, job, at, map);
-    }
-    if kind == 6 {
-        return obey_run(s, n, job, at, map);
-    }
-    if kind == 7 {
-        return s.lift();
-    }
-    if kind == 8 {
-        return obey_expand(s, n, job, at, sheet, map, scratch);
-    }
-    obey_shrink(s, n, job, at, sheet, map, scratch)
-}
+// ---- executing any record
 
-// Obeys the record at `at`.
-fn obey(
+fn execute(
     s: Session,
     n: usize,
-    job: &[u8],
-    at: usize,
+    given: Record,
     sheet: &mut [u8],
     map: &mut [i16],
     scratch: &mut [i16],
 ) -> Done
-    requires { ⌜ Here (drop at (now job)) × (n ≤ length (now sheet)) ⌝ }
-    ensures { λ r. ⌜ Executed (recordHere (drop at (now (job .entry)))) (jobState s n (now (sheet .entry)) (now (map .entry)) (now (scratch .entry))) (r .answer) (jobState (r .session) (r .pixels) (now (sheet .exit)) (now (map .exit)) (now (scratch .exit))) ⌝ }
-    ensures { λ r. ⌜ r .pixels ≤ length (now (sheet .exit)) ⌝ }
+    requires { ⌜ n ≤ length (now sheet) ⌝ }
+    ensures executed { λ r. ⌜ Executed given (jobState s n (now (sheet .entry)) (now (map .entry)) (now (scratch .entry))) (r .answer)
+        (jobState (r .session) (r .pixels) (now (sheet .exit)) (now (map .exit)) (now (scratch .exit))) ⌝ }
+    ensures within { λ r. ⌜ r .pixels ≤ length (now (sheet .exit)) ⌝ }
 {
-    if records::word_at(job, at, 2) == 1 {
-        return obey_open(s, n, job, at, sheet);
-    }
-    let acted = act(s, n, job, at, sheet, map, scratch);
-    let session = acted.session;
-    Done {
-        answer: acted.answer,
-        pixels: n,
-        session,
+    match given {
+        Record::Open(w, h) => execute_open(s, n, sheet, w, h),
+        Record::Paint(x, y, cols, rows) => with_pixels(
+            execute_paint(s, n, sheet, x, y, cols, rows),
+            n,
+        ),
+        Record::Erase(x, y, cols, rows) => with_pixels(
+            execute_erase(s, n, sheet, x, y, cols, rows),
+            n,
+        ),
+        Record::Build(engine) => with_pixels(execute_build(s, n, sheet, map, scratch, engine), n),
+        Record::Place(x, y, q) => with_pixels(execute_place(s, n, map, x, y, q), n),
+        Record::Run(direction, count) => with_pixels(execute_run(s, n, map, direction, count), n),
+        Record::Lift => with_pixels(s.lift(), n),
+        Record::Expand(q) => with_pixels(execute_expand(s, n, sheet, map, scratch, q), n),
+        Record::Shrink(q) => with_pixels(execute_shrink(s, n, sheet, map, scratch, q), n),
     }
 }
 
@@ -273,8 +225,11 @@ fn run_all(
     out: &mut [u8],
 ) -> usize
     requires { ⌜ (isJob (now job) ≡ true) × (9 * length (recordsOf (now job)) ≤ length (now out)) ⌝ }
-    ensures { λ r. ⌜ Put (now (out .entry)) 0 (reportOf (recordsOf (now (job .entry))) (startState (now (sheet .entry)) (now (map .entry)) (now (scratch .entry)))) r (now (out .exit)) ⌝ }
-    ensures { λ r. ⌜ Left (stateAfter (recordsOf (now (job .entry))) (startState (now (sheet .entry)) (now (map .entry)) (now (scratch .entry)))) (now (sheet .exit)) (now (map .exit)) (now (scratch .exit)) ⌝ }
+    ensures text { λ r. ⌜ Put (now (out .entry)) 0
+        (reportOf (recordsOf (now (job .entry))) (startState (now (sheet .entry)) (now (map .entry)) (now (scratch .entry)))) r (now (out .exit)) ⌝ }
+    ensures buffers { λ r. ⌜ Buffers
+        (stateAfter (recordsOf (now (job .entry))) (startState (now (sheet .entry)) (now (map .entry)) (now (scratch .entry))))
+        (now (sheet .exit)) (now (map .exit)) (now (scratch .exit)) ⌝ }
 {
     let mut s = Session::fresh();
     let mut n = 0;
@@ -282,10 +237,14 @@ fn run_all(
     let mut i = 0;
     let mut end = 0;
     while at < job.len() {
-        let done = obey(s, n, job, at, sheet, map, scratch);
+        let reading = records::read(job, at);
+        let Reading::Whole(record, length) = reading else {
+            return end;
+        };
+        let done = execute(s, n, record, sheet, map, scratch);
         i += 1;
         end = records::put_line(out, end, i, done.answer);
-        at += records::length_at(job, at);
+        at += length;
         n = done.pixels;
         let session = done.session;
         s = session;
@@ -302,12 +261,18 @@ pub fn run(
     scratch: &mut [i16],
     out: &mut [u8],
 ) -> Ran
-    ensures { λ r. ⌜ r .answer ≡ ranAnswer (now (job .entry)) (now (out .entry)) ⌝ }
-    ensures { λ r. ⌜ r .written ≡ length (printed (now (job .entry)) (startState (now (sheet .entry)) (now (map .entry)) (now (scratch .entry))) (now (out .entry))) ⌝ }
-    ensures { λ r. ⌜ now (out .exit) ≡ written (printed (now (job .entry)) (startState (now (sheet .entry)) (now (map .entry)) (now (scratch .entry))) (now (out .entry))) (now (out .entry)) ⌝ }
-    ensures { λ r. ⌜ now (sheet .exit) ≡ sheetBuffer (stateLeft (now (job .entry)) (now (out .entry)) (startState (now (sheet .entry)) (now (map .entry)) (now (scratch .entry)))) ⌝ }
-    ensures { λ r. ⌜ now (map .exit) ≡ mapBuffer (stateLeft (now (job .entry)) (now (out .entry)) (startState (now (sheet .entry)) (now (map .entry)) (now (scratch .entry)))) ⌝ }
-    ensures { λ r. ⌜ now (scratch .exit) ≡ stateLeft (now (job .entry)) (now (out .entry)) (startState (now (sheet .entry)) (now (map .entry)) (now (scratch .entry))) .scratch ⌝ }
+    ensures answered { λ r. ⌜ r .answer ≡ ranAnswer (now (job .entry)) (now (out .entry)) ⌝ }
+    ensures counted { λ r. ⌜ r .written
+        ≡ length (printed (now (job .entry)) (startState (now (sheet .entry)) (now (map .entry)) (now (scratch .entry))) (now (out .entry))) ⌝ }
+    ensures out_left { λ r. ⌜ now (out .exit)
+        ≡ written (printed (now (job .entry)) (startState (now (sheet .entry)) (now (map .entry)) (now (scratch .entry))) (now (out .entry)))
+        (now (out .entry)) ⌝ }
+    ensures sheet_left { λ r. ⌜ now (sheet .exit)
+        ≡ sheetBuffer (stateLeft (now (job .entry)) (now (out .entry)) (startState (now (sheet .entry)) (now (map .entry)) (now (scratch .entry)))) ⌝ }
+    ensures map_left { λ r. ⌜ now (map .exit)
+        ≡ mapBuffer (stateLeft (now (job .entry)) (now (out .entry)) (startState (now (sheet .entry)) (now (map .entry)) (now (scratch .entry)))) ⌝ }
+    ensures scratch_left { λ r. ⌜ now (scratch .exit)
+        ≡ stateLeft (now (job .entry)) (now (out .entry)) (startState (now (sheet .entry)) (now (map .entry)) (now (scratch .entry))) .scratch ⌝ }
 {
     let counted = records::split(job);
     if counted.answer != 0 {

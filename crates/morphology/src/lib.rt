@@ -6,7 +6,7 @@ ghost use lib.Dec.{leb};
 ghost use lib.ListN.{length};
 ghost use Rattle.raster.specs.Limits.{maxQ};
 ghost use Rattle.raster.specs.Map.{sizeAt, unmapped};
-ghost use Rattle.exact.specs.Nearest.{cleared};
+ghost use Rattle.exact.specs.Nearest.{scratchNeed, scratchLeft};
 ghost use Rattle.morphology.specs.Resize.{expanded, shrunk};
 ghost use Rattle.morphology.specs.Threshold.{turned, flipped, thresholded};
 
@@ -52,10 +52,10 @@ fn threshold(map: &[i16], sheet: &mut [u8], q: u32, near: u8)
 // A pixel is copper afterwards if its true squared distance is at most q. The map is left unlabelled, scratch as after exact.
 pub fn expand(sheet: &mut [u8], map: &mut [i16], scratch: &mut [i16], w: usize, h: usize, q: u32)
     requires { ⌜ (w ≤ 2048) × ((h ≤ 2048) × (q ≤ maxQ)) ⌝ }
-    requires { ⌜ (length (now sheet) ≡ h * w) × ((length (now map) ≡ 2 * (h * w)) × (h * w ≤ length (now scratch))) ⌝ }
-    ensures { λ _. ⌜ now (sheet .exit) ≡ expanded w h q (now (sheet .entry)) ⌝ }
-    ensures { λ _. ⌜ now (map .exit) ≡ unmapped (now (map .entry)) ⌝ }
-    ensures { λ _. ⌜ now (scratch .exit) ≡ cleared (h * w) (now (scratch .entry)) ⌝ }
+    requires { ⌜ (length (now sheet) ≡ h * w) × ((length (now map) ≡ 2 * (h * w)) × (scratchNeed w h ≤ length (now scratch))) ⌝ }
+    ensures sheet_left { λ _. ⌜ now (sheet .exit) ≡ expanded w h q (now (sheet .entry)) ⌝ }
+    ensures map_left { λ _. ⌜ now (map .exit) ≡ unmapped (now (map .entry)) ⌝ }
+    ensures scratch_left { λ _. ⌜ now (scratch .exit) ≡ scratchLeft w h (now (scratch .entry)) ⌝ }
 {
     exact::exact(sheet, map, scratch, w, h);
     threshold(map, sheet, q, 1);
@@ -66,10 +66,10 @@ pub fn expand(sheet: &mut [u8], map: &mut [i16], scratch: &mut [i16], w: usize, 
 // bare one is.
 pub fn shrink(sheet: &mut [u8], map: &mut [i16], scratch: &mut [i16], w: usize, h: usize, q: u32)
     requires { ⌜ (w ≤ 2048) × ((h ≤ 2048) × (q ≤ maxQ)) ⌝ }
-    requires { ⌜ (length (now sheet) ≡ h * w) × ((length (now map) ≡ 2 * (h * w)) × (h * w ≤ length (now scratch))) ⌝ }
-    ensures { λ _. ⌜ now (sheet .exit) ≡ shrunk w h q (now (sheet .entry)) ⌝ }
-    ensures { λ _. ⌜ now (map .exit) ≡ unmapped (now (map .entry)) ⌝ }
-    ensures { λ _. ⌜ now (scratch .exit) ≡ cleared (h * w) (now (scratch .entry)) ⌝ }
+    requires { ⌜ (length (now sheet) ≡ h * w) × ((length (now map) ≡ 2 * (h * w)) × (scratchNeed w h ≤ length (now scratch))) ⌝ }
+    ensures sheet_left { λ _. ⌜ now (sheet .exit) ≡ shrunk w h q (now (sheet .entry)) ⌝ }
+    ensures map_left { λ _. ⌜ now (map .exit) ≡ unmapped (now (map .entry)) ⌝ }
+    ensures scratch_left { λ _. ⌜ now (scratch .exit) ≡ scratchLeft w h (now (scratch .entry)) ⌝ }
 {
     flip(sheet);
     exact::exact(sheet, map, scratch, w, h);

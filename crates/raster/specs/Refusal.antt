@@ -4,12 +4,10 @@
 use Prim.Native.Nat.{ℕ}
 use mathlib.Core.Bool.{Bool, cond}
 use mathlib.Core.List.{List, [], _∷_}
-use lib.Dec.{eqb}
 
-unfoldable pub firstOf : List (Bool × ℕ) → ℕ
+abbrev pub Table : Type 0
+Table = List (Bool × ℕ)
+
+unfoldable pub firstOf : Table → ℕ
 firstOf [] = 0
 firstOf ((when, number) ∷ rest) = cond when number (firstOf rest)
-
--- a table that goes on with one more row, which looks at what the rows before it grant
-abbrev pub lastOf : (refusal : ℕ) → (when : Bool) → (number : ℕ) → ℕ
-lastOf refusal when number = cond (eqb refusal 0) (cond when number 0) refusal

@@ -10,6 +10,13 @@ ghost use Rattle.raster.specs.Sheet.{bare, spanned, filled};
 
 pub const MARK: i16 = -32768;
 
+// The pixels of a sheet of w × h.
+pub fn area(w: u16, h: u16) -> usize
+    ensures { λ r. ⌜ r ≡ h * w ⌝ }
+{
+    (h as usize) * (w as usize)
+}
+
 // How far a number reaches, without its sign.
 pub fn magnitude(z: i32) -> u32
     requires { ⌜ Wide z ⌝ }

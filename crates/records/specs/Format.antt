@@ -7,18 +7,10 @@ use Prim.Native.Nat.{ℕ, zero, suc, _+_, _*_, _/_, _%_, _≤_}
 use lib.Dec.{eqb, leb}
 use lib.ListN.{length, getD, drop}
 use Rattle.records.specs.declared.Counted.{Counted}
-
--- a record, with its fields in their order
-pub data Record : Type 0 where
-  opening : (w h : ℕ) → Record
-  paint : (x y cols rows : ℕ) → Record
-  erase : (x y cols rows : ℕ) → Record
-  build : (engine : ℕ) → Record
-  place : (x y q : ℕ) → Record
-  run : (direction count : ℕ) → Record
-  lift : Record
-  expand : (q : ℕ) → Record
-  shrink : (q : ℕ) → Record
+use Rattle.records.specs.declared.Record.{Record}
+use Rattle.records.specs.declared.Record.the-variants.{Open, Paint, Erase, Build, Place, Run, Lift, Expand, Shrink}
+use Rattle.records.specs.declared.Reading.{Reading}
+use Rattle.records.specs.declared.Reading.the-variants.{Whole, Broken}
 
 -- ---- reading, little-endian
 
@@ -53,13 +45,17 @@ pub record Here (b : List ℕ) : Type 0 where
 unfoldable pub recordHere : List ℕ → Record
 recordHere b =
     let kind = word b 2 in
-    cond (eqb kind 1) (opening (word b 4) (word b 6))
-    (cond (eqb kind 2) (paint (word b 4) (word b 6) (word b 8) (word b 10))
-    (cond (eqb kind 3) (erase (word b 4) (word b 6) (word b 8) (word b 10))
-    (cond (eqb kind 4) (build (word b 4))
-    (cond (eqb kind 5) (place (word b 4) (word b 6) (long b 8))
-    (cond (eqb kind 6) (run (word b 4) (word b 6))
-    (cond (eqb kind 7) lift (cond (eqb kind 8) (expand (long b 4)) (shrink (long b 4)))))))))
+    cond (eqb kind 1) (Open (word b 4) (word b 6))
+    (cond (eqb kind 2) (Paint (word b 4) (word b 6) (word b 8) (word b 10))
+    (cond (eqb kind 3) (Erase (word b 4) (word b 6) (word b 8) (word b 10))
+    (cond (eqb kind 4) (Build (word b 4))
+    (cond (eqb kind 5) (Place (word b 4) (word b 6) (long b 8))
+    (cond (eqb kind 6) (Run (word b 4) (word b 6))
+    (cond (eqb kind 7) Lift (cond (eqb kind 8) (Expand (long b 4)) (Shrink (long b 4)))))))))
+
+-- what stands at the front of the bytes
+unfoldable pub readHere : List ℕ → Reading
+readHere b = cond (eqb (lengthHere b) 0) Broken (Whole (recordHere b) (lengthHere b))
 
 -- ---- splitting
 
@@ -96,15 +92,15 @@ longBytes n = wordBytes (n % 65536) ++ wordBytes (n / 65536)
 
 -- the length, the kind, the fields
 unfoldable pub encode : Record → List ℕ
-encode (opening w h) = wordBytes 8 ++ wordBytes 1 ++ wordBytes w ++ wordBytes h
-encode (paint x y c r) = wordBytes 12 ++ wordBytes 2 ++ wordBytes x ++ wordBytes y ++ wordBytes c ++ wordBytes r
-encode (erase x y c r) = wordBytes 12 ++ wordBytes 3 ++ wordBytes x ++ wordBytes y ++ wordBytes c ++ wordBytes r
-encode (build e) = wordBytes 6 ++ wordBytes 4 ++ wordBytes e
-encode (place x y q) = wordBytes 12 ++ wordBytes 5 ++ wordBytes x ++ wordBytes y ++ longBytes q
-encode (run d n) = wordBytes 8 ++ wordBytes 6 ++ wordBytes d ++ wordBytes n
-encode lift = wordBytes 4 ++ wordBytes 7
-encode (expand q) = wordBytes 8 ++ wordBytes 8 ++ longBytes q
-encode (shrink q) = wordBytes 8 ++ wordBytes 9 ++ longBytes q
+encode (Open w h) = wordBytes 8 ++ wordBytes 1 ++ wordBytes w ++ wordBytes h
+encode (Paint x y c r) = wordBytes 12 ++ wordBytes 2 ++ wordBytes x ++ wordBytes y ++ wordBytes c ++ wordBytes r
+encode (Erase x y c r) = wordBytes 12 ++ wordBytes 3 ++ wordBytes x ++ wordBytes y ++ wordBytes c ++ wordBytes r
+encode (Build e) = wordBytes 6 ++ wordBytes 4 ++ wordBytes e
+encode (Place x y q) = wordBytes 12 ++ wordBytes 5 ++ wordBytes x ++ wordBytes y ++ longBytes q
+encode (Run d n) = wordBytes 8 ++ wordBytes 6 ++ wordBytes d ++ wordBytes n
+encode Lift = wordBytes 4 ++ wordBytes 7
+encode (Expand q) = wordBytes 8 ++ wordBytes 8 ++ longBytes q
+encode (Shrink q) = wordBytes 8 ++ wordBytes 9 ++ longBytes q
 
 -- one record after the other
 unfoldable pub encodeAll : List Record → List ℕ

@@ -1,7 +1,7 @@
 -- Laws of the job file's bytes.
 -- Assumes nothing.
 use mathlib.Core.Path.{_≡_, refl, sym, ap, ap₂, _∙_}
-use mathlib.Core.Bool.{Bool, true, false, cond, _&&_, and-false}
+use mathlib.Core.Bool.{Bool, true, false, cond, _&&_, and-false, true≢false}
 use mathlib.Core.List.{List, [], _∷_, _++_}
 use Prim.Native.Nat.{ℕ, zero, suc, _+_, _-_, _*_, _/_, _%_, _<_, _≤_}
 use native.Mathlib.Decide.{decLe}
@@ -13,22 +13,17 @@ use lib.Seq.{drop-drop, getD-drop, drop-append-seam}
 use borrow.Author.Tests.{eq-eqb, ne-eqb, eqb-true, leb-true, le-leb, lt-leb}
 use Rattle.raster.specs.Tests.{and-left, and-right, cond-ind}
 use Rattle.records.specs.declared.Counted.{Counted}
+use Rattle.records.specs.declared.Record.{Record}
+use Rattle.records.specs.declared.Record.the-variants.{Open, Paint, Erase, Build, Place, Run, Lift, Expand, Shrink}
+use Rattle.records.specs.declared.Reading.{Reading}
+use Rattle.records.specs.declared.Reading.the-variants.{Whole, Broken}
 use Rattle.records.specs.Format.{
-  Record,
-  opening,
-  paint,
-  erase,
-  build,
-  place,
-  run,
-  lift,
-  expand,
-  shrink,
   word,
   lengthOf,
   lengthHere,
   Here,
   recordHere,
+  readHere,
   splits,
   recordsIn,
   isJob,
@@ -122,15 +117,15 @@ size-is bytes four same fits =
 header : (o : Record) (rest : List ℕ)
     → (word (encode o ++ rest) 0 ≡ length (encode o)) × (lengthOf (word (encode o ++ rest) 2) ≡ length (encode o)) × (4 ≤ length (encode o))
 unfolding encode lengthOf
-header (opening w h) rest = (refl, refl, omega arith)
-header (paint x y c r) rest = (refl, refl, omega arith)
-header (erase x y c r) rest = (refl, refl, omega arith)
-header (build e) rest = (refl, refl, omega arith)
-header (place x y q) rest = (refl, refl, omega arith)
-header (run d n) rest = (refl, refl, omega arith)
-header lift rest = (refl, refl, omega arith)
-header (expand q) rest = (refl, refl, omega arith)
-header (shrink q) rest = (refl, refl, omega arith)
+header (Open w h) rest = (refl, refl, omega arith)
+header (Paint x y c r) rest = (refl, refl, omega arith)
+header (Erase x y c r) rest = (refl, refl, omega arith)
+header (Build e) rest = (refl, refl, omega arith)
+header (Place x y q) rest = (refl, refl, omega arith)
+header (Run d n) rest = (refl, refl, omega arith)
+header Lift rest = (refl, refl, omega arith)
+header (Expand q) rest = (refl, refl, omega arith)
+header (Shrink q) rest = (refl, refl, omega arith)
 
 -- the record at the front of bytes that start with a written record is that one
 size-written : (o : Record) (rest : List ℕ) → lengthHere (encode o ++ rest) ≡ length (encode o)
@@ -141,15 +136,15 @@ size-written o rest =
 
 record-written : (o : Record) (rest : List ℕ) → recordHere (encode o ++ rest) ≡ o
 unfolding encode recordHere
-record-written (opening w h) rest = simp halves
-record-written (paint x y c r) rest = simp halves
-record-written (erase x y c r) rest = simp halves
-record-written (build e) rest = simp halves
-record-written (place x y q) rest = simp (halves, whole)
-record-written (run d n) rest = simp halves
-record-written lift rest = refl
-record-written (expand q) rest = simp (halves, whole)
-record-written (shrink q) rest = simp (halves, whole)
+record-written (Open w h) rest = simp halves
+record-written (Paint x y c r) rest = simp halves
+record-written (Erase x y c r) rest = simp halves
+record-written (Build e) rest = simp halves
+record-written (Place x y q) rest = simp (halves, whole)
+record-written (Run d n) rest = simp halves
+record-written Lift rest = refl
+record-written (Expand q) rest = simp (halves, whole)
+record-written (Shrink q) rest = simp (halves, whole)
 
 each-a-byte : (os : List Record) → length os ≤ length (encodeAll os)
 unfolding encodeAll
@@ -212,3 +207,47 @@ pub room : (job : List ℕ) (at j : ℕ) {k : ℕ} → Here (drop at job) → k 
 room job at j h is e =
     let same : word (drop at job) 2 ≡ j = sym is ∙ e in
     omega (arith, length-drop at job, h .header, rw same at (h .size))
+
+-- one number further up
+pub beyond : (m : ℕ) {k : ℕ} → m ≤ k → (k ≡ m → ⊥) → m + 1 ≤ k
+beyond m {k} l n = elim (decLe (m + 1) k) [
+  | yes h ↦ h
+  | no h ↦ absurd (n (omega arith))
+]
+
+-- ---- what reading found
+
+pub read-broken : (b : List ℕ) {length : ℕ} → length ≡ lengthHere b → length ≡ 0 → Broken ≡ readHere b
+unfolding readHere
+read-broken b is none = rw (← is, none)
+
+pub read-whole : (b : List ℕ) {length : ℕ} {r : Record} → length ≡ lengthHere b → (length ≡ 0 → ⊥) → r ≡ recordHere b → Whole r length ≡ readHere b
+unfolding readHere
+read-whole b {length} is some same = rw (← is, ne-eqb length 0 some, same)
+
+isWhole : Reading → Bool
+isWhole (Whole r n) = true
+isWhole Broken = false
+
+itsRecord : Reading → Record
+itsRecord (Whole r n) = r
+itsRecord Broken = Lift
+
+itsLength : Reading → ℕ
+itsLength (Whole r n) = n
+itsLength Broken = 0
+
+-- a whole record, and none
+pub whole-is : (b : List ℕ) {r : Record} {n : ℕ} → Whole r n ≡ readHere b → (r ≡ recordHere b) × (n ≡ lengthHere b)
+unfolding readHere isWhole itsRecord itsLength
+whole-is b {r} {n} =
+    cond-ind (λ (found : Reading). Whole r n ≡ found → (r ≡ recordHere b) × (n ≡ lengthHere b)) (eqb (lengthHere b) 0)
+    (λ _ e. absurd (true≢false (ap isWhole e)))
+    (λ _ e. (ap itsRecord e, ap itsLength e))
+
+pub broken-is : (b : List ℕ) → Broken ≡ readHere b → lengthHere b ≡ 0
+unfolding readHere isWhole
+broken-is b =
+    cond-ind (λ (found : Reading). Broken ≡ found → lengthHere b ≡ 0) (eqb (lengthHere b) 0)
+    (λ z _. eqb-true (lengthHere b) 0 z)
+    (λ _ e. absurd (true≢false (sym (ap isWhole e))))

@@ -4,7 +4,7 @@ ghost use mathlib.Core.Path.{_≡_};
 ghost use mathlib.Core.List.{[], _∷_};
 ghost use Prim.Native.Nat.{_+_, _≤_, _<_};
 ghost use lib.ListN.{length, drop};
-ghost use Rattle.records.specs.Format.{word, long, lengthOf, lengthHere, splitOf};
+ghost use Rattle.records.specs.Format.{word, long, lengthOf, lengthHere, Here, recordHere, readHere, splitOf};
 ghost use Rattle.records.specs.Text.{decimalDigits, answerLine, Put};
 
 // The number of records and 0, or 0 and 19.
@@ -12,6 +12,25 @@ ghost use Rattle.records.specs.Text.{decimalDigits, answerLine, Put};
 pub struct Counted {
     pub records: u32,
     pub answer: u32,
+}
+
+// A record, with its fields in their order.
+pub enum Record {
+    Open(u16, u16),
+    Paint(u16, u16, u16, u16),
+    Erase(u16, u16, u16, u16),
+    Build(u16),
+    Place(u16, u16, u32),
+    Run(u16, u16),
+    Lift,
+    Expand(u32),
+    Shrink(u32),
+}
+
+// What stands at a place of the bytes: a whole record with its length, or none.
+pub enum Reading {
+    Whole(Record, usize),
+    Broken,
 }
 
 // ---- reading a record
@@ -30,7 +49,7 @@ fn wider(word: u16) -> u32
 }
 
 // The 16-bit number at place i of what starts at `at`.
-pub fn word_at(job: &[u8], at: usize, i: usize) -> u16
+fn word_at(job: &[u8], at: usize, i: usize) -> u16
     requires { ⌜ (at + i) + 1 < length (now job) ⌝ }
     ensures { λ r. ⌜ r ≡ word (drop at (now (job .entry))) i ⌝ }
 {
@@ -40,7 +59,7 @@ pub fn word_at(job: &[u8], at: usize, i: usize) -> u16
 }
 
 // The 32-bit number there.
-pub fn long_at(job: &[u8], at: usize, i: usize) -> u32
+fn long_at(job: &[u8], at: usize, i: usize) -> u32
     requires { ⌜ (at + i) + 3 < length (now job) ⌝ }
     ensures { λ r. ⌜ r ≡ long (drop at (now (job .entry))) i ⌝ }
 {
@@ -69,7 +88,7 @@ fn length_of(kind: u16) -> usize
 }
 
 // The length of the record that starts at `at`, or 0.
-pub fn length_at(job: &[u8], at: usize) -> usize
+fn length_at(job: &[u8], at: usize) -> usize
     requires { ⌜ at ≤ length (now job) ⌝ }
     ensures { λ r. ⌜ r ≡ lengthHere (drop at (now (job .entry))) ⌝ }
 {
@@ -82,6 +101,65 @@ pub fn length_at(job: &[u8], at: usize) -> usize
         return size;
     }
     0
+}
+
+// The record that starts at `at`, by its kind.
+fn record_at(job: &[u8], at: usize) -> Record
+    requires { ⌜ Here (drop at (now job)) ⌝ }
+    ensures { λ r. ⌜ r ≡ recordHere (drop at (now (job .entry))) ⌝ }
+{
+    let kind = word_at(job, at, 2);
+    if kind == 1 {
+        return Record::Open(word_at(job, at, 4), word_at(job, at, 6));
+    }
+    if kind == 2 {
+        return Record::Paint(
+            word_at(job, at, 4),
+            word_at(job, at, 6),
+            word_at(job, at, 8),
+            word_at(job, at, 10),
+        );
+    }
+    if kind == 3 {
+        return Record::Erase(
+            word_at(job, at, 4),
+            word_at(job, at, 6),
+            word_at(job, at, 8),
+            word_at(job, at, 10),
+        );
+    }
+    if kind == 4 {
+        return Record::Build(word_at(job, at, 4));
+    }
+    if kind == 5 {
+        return Record::Place(
+            word_at(job, at, 4),
+            word_at(job, at, 6),
+            long_at(job, at, 8),
+        );
+    }
+    if kind == 6 {
+        return Record::Run(word_at(job, at, 4), word_at(job, at, 6));
+    }
+    if kind == 7 {
+        return Record::Lift;
+    }
+    if kind == 8 {
+        return Record::Expand(long_at(job, at, 4));
+    }
+    Record::Shrink(long_at(job, at, 4))
+}
+
+// What stands at `at`.
+pub fn read(job: &[u8], at: usize) -> Reading
+    requires { ⌜ at ≤ length (now job) ⌝ }
+    ensures { λ r. ⌜ r ≡ readHere (drop at (now (job .entry))) ⌝ }
+{
+    let length = length_at(job, at);
+    if length == 0 {
+        return Reading::Broken;
+    }
+    Reading::Whole(record_at(job, at), length)
 }
 
 // ---- splitting

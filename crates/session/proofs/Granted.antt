@@ -12,13 +12,15 @@ use lib.ListN.{length, getD}
 use borrow.Author.Tests.{leb-true, ltb-true, leb-false, ltb-false, eqb-true, not-true, not-false}
 use Rattle.raster.specs.Limits.{maxSide, maxQ, maxCount}
 use Rattle.raster.specs.Refusal.{firstOf}
-use Rattle.raster.specs.RefusalLaws.{every, first-every}
+use Rattle.raster.specs.RefusalLaws.{none-holds, last-fails, last-holds}
 use Rattle.raster.specs.Tests.{and-left, and-right, or-left, or-right}
-use Rattle.cutter.specs.Gates.{OnSheet}
+use Rattle.exact.specs.Nearest.{scratchNeed}
+use Rattle.cutter.specs.Gates.{knownEngine, OnSheet, mayStand, leavesSheet, blocked}
 use Rattle.cutter.proofs.Walk.{on-sheet}
 use Rattle.session.specs.declared.Session.{Session}
-use Rattle.session.specs.State.{side, cutterSound, mapSound, sheetSound, sound, active}
-use Rattle.session.specs.Calls.{notSheet, notMap, shortScratch, openAnswer, fillAnswer, buildRefusal, ownCutter, placeRefusal, runRefusal, resizeAnswer, readAnswer}
+use Rattle.session.specs.State.{side, cutterSound, mapSound, sheetSound, sound, active, cutterOf, ownCutter}
+use Rattle.session.specs.Maps.{overflows}
+use Rattle.session.specs.Refusals.{notSheet, notMap, shortScratch, openTable, fillTable, buildRows, buildTable, placeRows, placeTable, runRows, runTable, resizeTable, readTable}
 
 both : (a b : Bool) → a && b ≡ true → (a ≡ true) × (b ≡ true)
 both a b e = (and-left a b e, and-right a b e)
@@ -56,21 +58,11 @@ lowered-says s fine l =
     let on = both (ltb (s .x) (s .width)) _ (rest .0) in
     record { current = all .0; across = ltb-true _ _ (on .0); down = ltb-true _ _ (on .1); small = leb-true _ _ (rest .1) }
 
--- ---- a table that answers 0: none of its conditions holds
-
--- where no number of it is 0, row by row
-fails : (table : List (Bool × ℕ)) → every (ltb 0) table ≡ true → firstOf table ≡ 0 → (row : ℕ) → getD table row (false, 0) .0 ≡ false
-unfolding firstOf
-fails [] n e row = refl
-fails ((true, number) ∷ rest) n e row = absurd (omega (arith, ltb-true 0 number (and-left (ltb 0 number) _ n)))
-fails ((false, number) ∷ rest) n e zero = refl
-fails ((false, number) ∷ rest) n e (suc row) = fails rest (and-right (ltb 0 number) _ n) e row
-
 -- ---- open
 
-pub open-granted : (sheet : List ℕ) (w h : ℕ) → openAnswer sheet w h ≡ 0 → (side w && side h ≡ true) × (length sheet ≡ h * w)
-unfolding openAnswer
-open-granted sheet w h done = let f = fails _ refl done in (not-false _ (f 0), eqb-true _ _ (not-false _ (f 1)))
+pub open-granted : (sheet : List ℕ) (w h : ℕ) → firstOf (openTable sheet w h) ≡ 0 → (side w && side h ≡ true) × (length sheet ≡ h * w)
+unfolding openTable
+open-granted sheet w h done = let f = none-holds _ refl done in (not-false _ (f 0), eqb-true _ _ (not-false _ (f 1)))
 
 -- ---- paint and erase
 
@@ -81,10 +73,10 @@ pub record Filling (s : Session) (sheet : List ℕ) (x y cols rows : ℕ) : Type
   pub down : y + rows ≤ s .height
 
 pub fill-granted : (s : Session) (sheet : List ℕ) (x y cols rows : ℕ) {answer : ℕ}
-    → answer ≡ fillAnswer s sheet x y cols rows → answer ≡ 0 → Filling s sheet x y cols rows
-unfolding fillAnswer
+    → answer ≡ firstOf (fillTable s sheet x y cols rows) → answer ≡ 0 → Filling s sheet x y cols rows
+unfolding fillTable
 fill-granted s sheet x y cols rows table done =
-    let f = fails _ refl (sym table ∙ done) in
+    let f = none-holds _ refl (sym table ∙ done) in
     let outside = or-right (eqb cols 0 || eqb rows 0) _ (f 2) in
     record {
       open-sheet = not-false _ (f 0);
@@ -100,13 +92,13 @@ pub record Building (s : Session) (sheet : List ℕ) (map scratch : List ℤ) (e
   pub held : length sheet ≡ s .height * s .width
   pub mapped : length map ≡ 2 * (s .height * s .width)
   pub spare : eqb engine 1 && shortScratch s scratch ≡ false
-  pub known : leb 1 engine && leb engine 3 ≡ true
+  pub known : knownEngine engine ≡ true
 
 pub build-granted : (s : Session) (sheet : List ℕ) (map scratch : List ℤ) (e : ℕ) {answer : ℕ}
-    → answer ≡ buildRefusal s sheet map scratch e → answer ≡ 0 → Building s sheet map scratch e
-unfolding buildRefusal
+    → answer ≡ firstOf (buildRows s sheet map scratch e) → answer ≡ 0 → Building s sheet map scratch e
+unfolding buildRows
 build-granted s sheet map scratch e table done =
-    let f = fails _ refl (sym table ∙ done) in
+    let f = none-holds _ refl (sym table ∙ done) in
     let others = or-right (notSheet s sheet) _ (f 1) in
     record {
       open-sheet = not-false _ (f 0);
@@ -116,10 +108,18 @@ build-granted s sheet map scratch e table done =
       known = not-false _ (f 2);
     }
 
--- none of the rows before it gives 35
-pub before-35 : (s : Session) (sheet : List ℕ) (map scratch : List ℤ) (e : ℕ) → eqb (buildRefusal s sheet map scratch e) 35 ≡ false
-unfolding buildRefusal
-before-35 s sheet map scratch e = not-true _ (first-every (λ n. not (eqb n 35)) _ refl refl)
+module _ (s : Session) (sheet : List ℕ) (map scratch : List ℤ) (e : ℕ) where
+  -- the whole table answers 0, or 35
+  pub build-done : firstOf (buildTable s sheet map scratch e) ≡ 0 → Building s sheet map scratch e × (overflows s sheet e ≡ false)
+  unfolding buildTable buildRows
+  build-done z =
+      let r = last-fails (overflows s sheet e) 35 (omega arith) (buildRows s sheet map scratch e) refl z in
+      (build-granted s sheet map scratch e refl (r .0), r .1)
+
+  pub build-overflows : firstOf (buildTable s sheet map scratch e) ≡ 35 → Building s sheet map scratch e
+  unfolding buildTable buildRows
+  build-overflows z =
+      build-granted s sheet map scratch e refl (last-holds (overflows s sheet e) 35 (omega arith) (buildRows s sheet map scratch e) refl z .0)
 
 -- ---- place: as far as the gate
 
@@ -132,10 +132,10 @@ pub record Placing (s : Session) (map : List ℤ) (x y q : ℕ) : Type 0 where
   pub current : s .current ≡ true
 
 pub place-granted : (s : Session) (map : List ℤ) (x y q : ℕ) {answer : ℕ}
-    → answer ≡ placeRefusal s map x y q → answer ≡ 0 → Placing s map x y q
-unfolding placeRefusal
+    → answer ≡ firstOf (placeRows s map x y q) → answer ≡ 0 → Placing s map x y q
+unfolding placeRows
 place-granted s map x y q table done =
-    let f = fails _ refl (sym table ∙ done) in
+    let f = none-holds _ refl (sym table ∙ done) in
     record {
       open-sheet = not-false _ (f 0);
       held = eqb-true _ _ (not-false _ (f 1));
@@ -145,19 +145,34 @@ place-granted s map x y q table done =
       current = not-false _ (f 4);
     }
 
+module _ (s : Session) (map : List ℤ) (x y q : ℕ) where
+  -- the whole table answers 0, or 34
+  pub place-done : firstOf (placeTable s map x y q) ≡ 0 → Placing s map x y q × (mayStand (cutterOf s x y q) map ≡ true)
+  unfolding placeTable placeRows
+  place-done z =
+      let r = last-fails (not (mayStand (cutterOf s x y q) map)) 34 (omega arith) (placeRows s map x y q) refl z in
+      (place-granted s map x y q refl (r .0), not-false _ (r .1))
+
+  pub place-stopped : firstOf (placeTable s map x y q) ≡ 34 → Placing s map x y q × (mayStand (cutterOf s x y q) map ≡ false)
+  unfolding placeTable placeRows
+  place-stopped z =
+      let r = last-holds (not (mayStand (cutterOf s x y q) map)) 34 (omega arith) (placeRows s map x y q) refl z in
+      (place-granted s map x y q refl (r .0), not-true _ (r .1))
+
 -- ---- run: as far as the gates
 
-pub record Running (s : Session) (map : List ℤ) (direction n : ℕ) : Type 0 where
+pub record RunGranted (s : Session) (map : List ℤ) (direction n : ℕ) : Type 0 where
   pub open-sheet : active s ≡ true
   pub lowered : s .lowered ≡ true
   pub cutter : Lowered s
   pub steps : 1 ≤ n
+  pub stays : leavesSheet (ownCutter s) direction n ≡ false
   pub on : OnSheet (ownCutter s) map direction n
 
-pub run-granted : (s : Session) (map : List ℤ) (d n : ℕ) {answer : ℕ} → answer ≡ runRefusal s map d n → answer ≡ 0 → Running s map d n
-unfolding runRefusal
+pub run-granted : (s : Session) (map : List ℤ) (d n : ℕ) {answer : ℕ} → answer ≡ firstOf (runRows s map d n) → answer ≡ 0 → RunGranted s map d n
+unfolding runRows
 run-granted s map d n table done =
-    let f = fails _ refl (sym table ∙ done) in
+    let f = none-holds _ refl (sym table ∙ done) in
     let counted : leb 1 n && leb n maxCount ≡ true = not-false _ (or-right (ltb 7 d) _ (f 2)) in
     let cutter = lowered-says s (and-right (s .opened) _ (not-false _ (f 0))) (not-false _ (f 3)) in
     let known = ltb-false 7 d (or-left (ltb 7 d) _ (f 2)) in
@@ -166,8 +181,23 @@ run-granted s map d n table done =
       lowered = not-false _ (f 3);
       cutter = cutter;
       steps = leb-true 1 n (and-left (leb 1 n) _ counted);
+      stays = f 4;
       on = on-sheet (ownCutter s) d known (cutter .across) (cutter .down) n (eqb-true _ _ (not-false _ (f 1))) (f 4);
     }
+
+module _ (s : Session) (map : List ℤ) (d n : ℕ) where
+  -- the whole table answers 0, or 34
+  pub run-done : firstOf (runTable s map d n) ≡ 0 → RunGranted s map d n × (blocked (ownCutter s) map d n ≡ false)
+  unfolding runTable runRows
+  run-done z =
+      let r = last-fails (blocked (ownCutter s) map d n) 34 (omega arith) (runRows s map d n) refl z in
+      (run-granted s map d n refl (r .0), r .1)
+
+  pub run-stopped : firstOf (runTable s map d n) ≡ 34 → RunGranted s map d n × (blocked (ownCutter s) map d n ≡ true)
+  unfolding runTable runRows
+  run-stopped z =
+      let r = last-holds (blocked (ownCutter s) map d n) 34 (omega arith) (runRows s map d n) refl z in
+      (run-granted s map d n refl (r .0), r .1)
 
 -- ---- expand and shrink
 
@@ -175,14 +205,14 @@ pub record Resizing (s : Session) (sheet : List ℕ) (map scratch : List ℤ) (q
   pub open-sheet : active s ≡ true
   pub held : length sheet ≡ s .height * s .width
   pub mapped : length map ≡ 2 * (s .height * s .width)
-  pub spare : s .height * s .width ≤ length scratch
+  pub spare : scratchNeed (s .width) (s .height) ≤ length scratch
   pub small : q ≤ maxQ
 
 pub resize-granted : (s : Session) (sheet : List ℕ) (map scratch : List ℤ) (q : ℕ) {answer : ℕ}
-    → answer ≡ resizeAnswer s sheet map scratch q → answer ≡ 0 → Resizing s sheet map scratch q
-unfolding resizeAnswer
+    → answer ≡ firstOf (resizeTable s sheet map scratch q) → answer ≡ 0 → Resizing s sheet map scratch q
+unfolding resizeTable
 resize-granted s sheet map scratch q table done =
-    let f = fails _ refl (sym table ∙ done) in
+    let f = none-holds _ refl (sym table ∙ done) in
     let others = or-right (notSheet s sheet) _ (f 1) in
     record {
       open-sheet = not-false _ (f 0);
@@ -195,7 +225,7 @@ resize-granted s sheet map scratch q table done =
 -- what expand and shrink below the session require
 pub resize-requires : {s : Session} {sheet : List ℕ} {map scratch : List ℤ} {q : ℕ} → Resizing s sheet map scratch q
     → ((s .width ≤ 2048) × ((s .height ≤ 2048) × (q ≤ maxQ)))
-    × ((length sheet ≡ s .height * s .width) × ((length map ≡ 2 * (s .height * s .width)) × (s .height * s .width ≤ length scratch)))
+    × ((length sheet ≡ s .height * s .width) × ((length map ≡ 2 * (s .height * s .width)) × (scratchNeed (s .width) (s .height) ≤ length scratch)))
 resize-requires {s} r = let l = active-limits s (r .open-sheet) in ((l .wide, (l .high, r .small)), (r .held, (r .mapped, r .spare)))
 
 -- ---- skeleton and rebuild
@@ -205,10 +235,10 @@ pub record Reading (s : Session) (map : List ℤ) (wrong : Bool) : Type 0 where
   pub held : length map ≡ 2 * (s .height * s .width)
   pub right : wrong ≡ false
 
-pub read-granted : (s : Session) (map : List ℤ) (wrong : Bool) {answer : ℕ} → answer ≡ readAnswer s map wrong → answer ≡ 0 → Reading s map wrong
-unfolding readAnswer
+pub read-granted : (s : Session) (map : List ℤ) (wrong : Bool) {answer : ℕ} → answer ≡ firstOf (readTable s map wrong) → answer ≡ 0 → Reading s map wrong
+unfolding readTable
 read-granted s map wrong table done =
-    let f = fails _ refl (sym table ∙ done) in
+    let f = none-holds _ refl (sym table ∙ done) in
     record {
       open-sheet = not-false _ (f 0);
       held = eqb-true _ _ (not-false _ (or-left (notMap s map) _ (f 1)));

@@ -4,11 +4,9 @@ use mathlib.Core.Bool.{Bool, true, false, not, cond, _&&_}
 use Prim.Native.Nat.{ℕ}
 use lib.Dec.{eqb, leb, ltb}
 use Rattle.raster.specs.Limits.{maxSide, maxQ}
+use Rattle.cutter.specs.declared.Cutter.{Cutter}
+use Rattle.cutter.specs.Gates.{knownEngine}
 use Rattle.session.specs.declared.Session.{Session}
-
--- nothing open, map not current, cutter up
-abbrev pub fresh : Session
-fresh = record { opened = false; width = 0; height = 0; current = false; engine = 0; lowered = false; x = 0; y = 0; q = 0 }
 
 -- a side of 1 to 2,048 pixels
 abbrev pub side : ℕ → Bool
@@ -20,7 +18,7 @@ sheetSound s = cond (s .opened) (side (s .width) && side (s .height)) (eqb (s .w
 
 -- the map is current by a known engine, or not by none
 unfoldable pub mapSound : Session → Bool
-mapSound s = cond (s .current) (leb 1 (s .engine) && leb (s .engine) 3) (eqb (s .engine) 0)
+mapSound s = cond (s .current) (knownEngine (s .engine)) (eqb (s .engine) 0)
 
 -- the cutter is up with nothing recorded, or down on the sheet over a current map
 unfoldable pub cutterSound : Session → Bool
@@ -39,21 +37,33 @@ active s = s .opened && sound s
 
 -- ---- how a session changes
 
--- a sheet of w × h is opened; the map is not current, the cutter up
-abbrev pub openedAs : (w h : ℕ) → Session
-openedAs w h = record { opened = true; width = w; height = h; current = false; engine = 0; lowered = false; x = 0; y = 0; q = 0 }
+-- all that it records
+abbrev pub recorded : (opened : Bool) (w h : ℕ) (current : Bool) (engine : ℕ) (lowered : Bool) (x y q : ℕ) → Session
+recorded o w h c e l x y q = record { opened = o; width = w; height = h; current = c; engine = e; lowered = l; x = x; y = y; q = q }
 
--- the map is not current any more, the cutter up
+-- sheet and map as said, the cutter up
+abbrev pub cutterUp : (opened : Bool) (w h : ℕ) (current : Bool) (engine : ℕ) → Session
+cutterUp o w h c e = recorded o w h c e false 0 0 0
+
+-- nothing open, map not current, cutter up
+abbrev pub fresh : Session
+fresh = cutterUp false 0 0 false 0
+
+-- a sheet of w × h is opened; the map is not current
+abbrev pub openedAs : (w h : ℕ) → Session
+openedAs w h = cutterUp true w h false 0
+
+-- the map is not current any more
 abbrev pub stale : Session → Session
 stale s = openedAs (s .width) (s .height)
 
--- the map is current, built by an engine; the cutter is up
+-- the map is current, built by an engine
 abbrev pub builtBy : (engine : ℕ) → Session → Session
-builtBy e s = record { opened = true; width = s .width; height = s .height; current = true; engine = e; lowered = false; x = 0; y = 0; q = 0 }
+builtBy e s = cutterUp true (s .width) (s .height) true e
 
--- the cutter as said, all else as it was
+-- the cutter as said, sheet and map as they were
 abbrev pub cutterAs : (lowered : Bool) (x y q : ℕ) → Session → Session
-cutterAs l x y q s = record { opened = s .opened; width = s .width; height = s .height; current = s .current; engine = s .engine; lowered = l; x = x; y = y; q = q }
+cutterAs l x y q s = recorded (s .opened) (s .width) (s .height) (s .current) (s .engine) l x y q
 
 -- it is down at (x, y) with q
 abbrev pub downAt : (x y q : ℕ) → Session → Session
@@ -62,3 +72,13 @@ downAt = cutterAs true
 -- it is up
 abbrev pub upOf : Session → Session
 upOf = cutterAs false 0 0 0
+
+-- ---- the cutter over the session's map
+
+-- one of q at the pixel (x, y)
+abbrev pub cutterOf : Session → (x y q : ℕ) → Cutter
+cutterOf s x y q = record { width = s .width; height = s .height; engine = s .engine; x = x; y = y; q = q }
+
+-- the one that is down
+abbrev pub ownCutter : Session → Cutter
+ownCutter s = cutterOf s (s .x) (s .y) (s .q)

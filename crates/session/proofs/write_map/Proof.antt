@@ -7,7 +7,7 @@ use borrow.Author.Needs.{needs}
 use borrow.Author.Tests.{eq-eqb, ne-eqb, ltb-false}
 use Rattle.raster.specs.Vector.{mark}
 use Rattle.candidate.specs.Candidate.{State}
-use Rattle.session.specs.Calls.{scanOf}
+use Rattle.session.specs.Maps.{scanOf}
 use Rattle.session.proofs.Granted.{active-limits, build-granted}
 use Rattle.session.proofs.write_map.Statement.{statement}
 use Rattle.session.proofs.write_map.Tie as tie

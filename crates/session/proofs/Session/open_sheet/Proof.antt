@@ -1,6 +1,6 @@
--- `session::Session::open_sheet` meets its contract: the answer is open_answer's, and on 0 the sheet is cleared and the session the one opened.
+-- `session::Session::open_sheet` meets its contract: the answer is open_answer's, the reply is by it, and on 0 the sheet is cleared.
 -- Assumes nothing.
-use mathlib.Core.Path.{refl}
+use mathlib.Core.Path.{refl, _∙_}
 use borrow.Author.Needs.{needs}
 use borrow.Author.Tests.{eq-eqb, ne-eqb}
 use Rattle.session.proofs.Session.open_sheet.Statement.{statement}
@@ -8,16 +8,21 @@ use Rattle.session.proofs.Session.open_sheet.Tie as tie
 
 returns : tie.Need-returns
 returns c =
-    let t = c .before .before .before .before .before in
-    rw (eq-eqb _ 0 (t .if1 .taken)) (t .before .open-answer .ensures, (c .opened-as .ensures, c .before .before .before .clear-sheet .ensures))
+    let t = c .before .before .before .before in
+    let r = t .before in
+    rw (r .replied .ensures .0, eq-eqb _ 0 (t .if1 .taken))
+    (r .before .before .open-answer .ensures, (r .replied .ensures .1 ∙ rw (eq-eqb _ 0 (t .if1 .taken)) (r .before .opened-as .ensures), c .before .before .clear-sheet .ensures))
 
 returns-2 : tie.Need-returns-2
-returns-2 c = rw (ne-eqb _ 0 (c .if1 .left)) (c .before .open-answer .ensures, (refl, refl))
+returns-2 c =
+    let r = c .before in
+    rw (r .replied .ensures .0, ne-eqb _ 0 (c .if1 .left)) (r .before .before .open-answer .ensures, (r .replied .ensures .1 ∙ rw (ne-eqb _ 0 (c .if1 .left)) refl, refl))
 
 pub open-sheet-spec : {M : Type 1} → statement M
 open-sheet-spec =
     tie.close
     (tie.spec
+    (λ c κs. search needs)
     (λ c κs. search needs)
     (λ c κs. search needs)
     (λ c κs. search needs)

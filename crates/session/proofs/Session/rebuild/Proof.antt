@@ -5,13 +5,14 @@ use mathlib.Core.Bool.{_||_}
 use borrow.Author.Needs.{needs}
 use borrow.Author.Tests.{eq-eqb, ne-eqb, eqb-true, not-false}
 use Rattle.raster.specs.Tests.{or-left, or-right}
-use Rattle.session.specs.Calls.{notSheet, rebuildAnswer}
+use Rattle.raster.specs.Refusal.{firstOf}
+use Rattle.session.specs.Refusals.{notSheet, rebuildTable}
 use Rattle.session.proofs.Granted.{active-limits, read-granted}
 use Rattle.session.proofs.Session.rebuild.Statement.{statement}
 use Rattle.session.proofs.Session.rebuild.Tie as tie
 
 answer-is : (c : tie.After-read-answer) → let a = c .before .before .before .before .args in
-    c .read-answer .result ≡ rebuildAnswer (a .self) (a .map .now) (a .marks .now) (a .out .now)
+    c .read-answer .result ≡ firstOf (rebuildTable (a .self) (a .map .now) (a .marks .now) (a .out .now))
 answer-is c = rw (c .before .pixels-of .ensures) at (c .read-answer .ensures)
 
 rebuild-requires : tie.Need-rebuild-requires

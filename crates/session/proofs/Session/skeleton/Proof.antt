@@ -3,13 +3,14 @@
 use mathlib.Core.Path.{_≡_, refl}
 use borrow.Author.Needs.{needs}
 use borrow.Author.Tests.{eq-eqb, ne-eqb, eqb-true, not-false}
-use Rattle.session.specs.Calls.{notSheet, skeletonAnswer}
+use Rattle.raster.specs.Refusal.{firstOf}
+use Rattle.session.specs.Refusals.{notSheet, skeletonTable}
 use Rattle.session.proofs.Granted.{active-limits, read-granted}
 use Rattle.session.proofs.Session.skeleton.Statement.{statement}
 use Rattle.session.proofs.Session.skeleton.Tie as tie
 
 answer-is : (c : tie.After-read-answer) → let a = c .before .before .before .args in
-    c .read-answer .result ≡ skeletonAnswer (a .self) (a .map .now) (a .out .now)
+    c .read-answer .result ≡ firstOf (skeletonTable (a .self) (a .map .now) (a .out .now))
 answer-is c = rw (c .before .pixels-of .ensures) at (c .read-answer .ensures)
 
 skeleton-requires : tie.Need-skeleton-requires

@@ -1,0 +1,194 @@
+-- Laws of executing a record: parts of buffers that are lent and come back, and each kind of record.
+-- Assumes nothing.
+use mathlib.Core.Path.{_≡_, refl, sym, ap, _∙_}
+use mathlib.Core.List.{List, _++_, append-nil}
+use mathlib.Core.Bool.{Bool, true, false, cond, _&&_, and-true, and-false}
+use Prim.Native.Nat.{ℕ, _+_, _*_, _<_, _≤_}
+use native.Mathlib.Decide.{decLe}
+use native.Mathlib.Omega.{arith}
+use lib.Dec.{eqb}
+use lib.IntN.{ℤ}
+use lib.ListN.{length, take, drop, drop-of-length-le, take-append-drop}
+use lib.Seq.{take-all, take-at, drop-at, length-take-le, take-length, drop-length}
+use borrow.Author.Tests.{le-leb, lt-leb}
+use Rattle.raster.specs.Map.{unmapped}
+use Rattle.raster.specs.Refusal.{firstOf}
+use Rattle.raster.specs.Sheet.{bare}
+use Rattle.morphology.specs.Resize.{expanded, shrunk}
+use Rattle.session.specs.declared.Session.{Session}
+use Rattle.session.specs.declared.Reply.{Reply}
+use Rattle.session.specs.State.{openedAs, stale, downAt}
+use Rattle.session.specs.Refusals.{openTable, fillTable, buildTable, placeTable, runTable, resizeTable}
+use Rattle.session.specs.Calls.{onDone, filledBy, buildSession, buildMap, scratchBy, runSession, liftSession}
+use Rattle.session.specs.Lists.{World, world}
+use Rattle.records.specs.declared.Record.the-variants.{Open, Paint, Erase, Build, Place, Run, Lift, Expand, Shrink}
+use Rattle.job.specs.declared.Done.{Done}
+use Rattle.job.specs.Run.{Behind, JobState, jobState}
+use Rattle.job.specs.Execute.{upto, Executed}
+
+-- the first n elements, or all of them
+pub upto-take : {A : Type 0} (n : ℕ) (l : List A) {r : ℕ} → r ≡ upto n (length l) → take r l ≡ take n l
+upto-take n l e = elim (decLe n (length l)) [
+  | yes h ↦ rw (e, le-leb n (length l) h)
+  | no h ↦ rw (e, lt-leb n (length l) (omega arith), take-all n l (omega arith), take-length)
+]
+
+pub upto-drop : {A : Type 0} (n : ℕ) (l : List A) {r : ℕ} → r ≡ upto n (length l) → drop r l ≡ drop n l
+upto-drop n l e = elim (decLe n (length l)) [
+  | yes h ↦ rw (e, le-leb n (length l) h)
+  | no h ↦ let b : length l ≤ n = omega arith in rw (e, lt-leb n (length l) (omega arith), drop-of-length-le l b, drop-length)
+]
+
+-- a part of n elements is as long
+pub part-length : {A : Type 0} (n : ℕ) (l : List A) → n ≤ length l → n ≡ length (take n l)
+part-length n l h = sym (length-take-le n l h)
+
+-- a part of n elements came back as p
+module _ {A : Type 0} (n : ℕ) (l p : List A) (same : length p ≡ length (take n l)) where
+  pub part-lent : take n (p ++ drop n l) ≡ p
+  part-lent = elim (decLe n (length l)) [
+    | yes h ↦ take-at p (drop n l) n (same ∙ length-take-le n l h)
+    | no h ↦
+        let b : length l ≤ n = omega arith in
+        let s : length p ≤ n = omega (arith, ap length (take-all n l b)) in
+        rw (drop-of-length-le l b, append-nil p) (take-all n p s)
+  ]
+
+  pub part-behind : drop n (p ++ drop n l) ≡ drop n l
+  part-behind = elim (decLe n (length l)) [
+    | yes h ↦ drop-at p (drop n l) n (same ∙ length-take-le n l h)
+    | no h ↦
+        let b : length l ≤ n = omega arith in
+        let s : length p ≤ n = omega (arith, ap length (take-all n l b)) in
+        rw (drop-of-length-le l b, append-nil p) (drop-of-length-le p s)
+  ]
+
+-- a part that was cut to what the list has came back as p
+module _ {A : Type 0} (n : ℕ) (l p : List A) {r : ℕ} (e : r ≡ upto n (length l)) (same : length p ≡ length (take r l)) where
+  pub upto-lent : take n (p ++ drop r l) ≡ p
+  upto-lent = rw (upto-drop n l e) (part-lent n l p (same ∙ ap length (upto-take n l e)))
+
+  pub upto-behind : drop n (p ++ drop r l) ≡ drop n l
+  upto-behind = rw (upto-drop n l e) (part-behind n l p (same ∙ ap length (upto-take n l e)))
+
+-- ---- executing each kind is what the definition says
+
+-- a choice between equals, and one of what is made of two numbers
+one : {A : Type 0} (t : Bool) (x : A) → x ≡ cond t x x
+one true x = refl
+one false x = refl
+
+chosen : {A : Type 0} (f : ℕ → A) (t : Bool) (x y : ℕ) → f (cond t x y) ≡ cond t (f x) (f y)
+chosen f true x y = refl
+chosen f false x y = refl
+
+-- a world whose parts are chosen is the one chosen
+joined : (t : Bool) (s₁ s₂ : Session) (a₁ a₂ : List ℕ) (m₁ m₂ : List ℤ)
+    → world (cond t s₁ s₂) (cond t a₁ a₂) (cond t m₁ m₂) ≡ cond t (world s₁ a₁ m₁) (world s₂ a₂ m₂)
+joined true s₁ s₂ a₁ a₂ m₁ m₂ = refl
+joined false s₁ s₂ a₁ a₂ m₁ m₂ = refl
+
+-- where sheet or map stay
+joined-sheet : (t : Bool) (s₁ s₂ : Session) (a₁ a₂ : List ℕ) (m : List ℤ) → world (cond t s₁ s₂) (cond t a₁ a₂) m ≡ cond t (world s₁ a₁ m) (world s₂ a₂ m)
+joined-sheet t s₁ s₂ a₁ a₂ m = ap (λ (n : List ℤ). world (cond t s₁ s₂) (cond t a₁ a₂) n) (one t m) ∙ joined t s₁ s₂ a₁ a₂ m m
+
+joined-session : (t : Bool) (s₁ s₂ : Session) (a : List ℕ) (m : List ℤ) → world (cond t s₁ s₂) a m ≡ cond t (world s₁ a m) (world s₂ a m)
+joined-session t s₁ s₂ a m = ap (λ (b : List ℕ). world (cond t s₁ s₂) b m) (one t a) ∙ joined-sheet t s₁ s₂ a a m
+
+joined-behind : (t : Bool) (a₁ a₂ : List ℕ) (m₁ m₂ : List ℤ)
+    → _≡_ {A = Behind} (record { sheet = cond t a₁ a₂; map = cond t m₁ m₂ }) (cond t (record { sheet = a₁; map = m₁ }) (record { sheet = a₂; map = m₂ }))
+joined-behind true a₁ a₂ m₁ m₂ = refl
+joined-behind false a₁ a₂ m₁ m₂ = refl
+
+-- states with the same world, the same rest and the same scratch
+same-state : {w v : World} {b c : Behind} {t u : List ℤ} → w ≡ v → b ≡ c → t ≡ u
+    → _≡_ {A = JobState} (record { world = w; behind = b; scratch = t }) (record { world = v; behind = c; scratch = u })
+same-state e f g = rw (e, f, g)
+
+module _ (s : Session) (n : ℕ) (sheet : List ℕ) where
+  pub open-executed : (w h : ℕ) (r : Done) (left : List ℕ) → r .answer ≡ firstOf (openTable (take (h * w) sheet) w h)
+      → r .session ≡ onDone (r .answer) (openedAs w h) s
+      → r .pixels ≡ onDone (r .answer) (h * w) n
+      → take (r .pixels) left ≡ onDone (r .answer) (bare (take (h * w) sheet)) (take n sheet)
+      → drop (r .pixels) left ≡ onDone (r .answer) (drop (h * w) sheet) (drop n sheet)
+      → (map scratch : List ℤ) → Executed (Open w h) (jobState s n sheet map scratch) (r .answer) (jobState (r .session) (r .pixels) left map scratch)
+  open-executed w h r left answer session pixels lent behind map scratch = record {
+    answer = rw (take-append-drop n sheet) answer;
+    left =
+        rw (take-append-drop n sheet, take-append-drop (2 * n) map, ← answer, session, lent, behind, pixels, and-false (eqb (r .answer) 0))
+        (same-state
+        (rw (chosen (λ (k : ℕ). take (2 * k) map) (eqb (r .answer) 0) (h * w) n) (joined (eqb (r .answer) 0) _ _ _ _ _ _))
+        (rw (chosen (λ (k : ℕ). drop (2 * k) map) (eqb (r .answer) 0) (h * w) n) (joined-behind (eqb (r .answer) 0) _ _ _ _))
+        refl);
+  }
+
+  module _ (x y cols rows : ℕ) (r : Reply) (left : List ℕ) (answer : r .answer ≡ firstOf (fillTable s (take n sheet) x y cols rows))
+      (session : r .session ≡ onDone (r .answer) (stale s) s) (behind : drop n left ≡ drop n sheet) where
+    pub paint-executed : take n left ≡ onDone (r .answer) (filledBy s x y cols rows 1 (take n sheet)) (take n sheet)
+        → (map scratch : List ℤ) → Executed (Paint x y cols rows) (jobState s n sheet map scratch) (r .answer) (jobState (r .session) n left map scratch)
+    paint-executed lent map scratch = record {
+      answer = answer;
+      left =
+          rw (← answer, session, lent, behind, and-false (eqb (r .answer) 0)) (same-state (joined-sheet (eqb (r .answer) 0) _ _ _ _ _) refl refl);
+    }
+
+    pub erase-executed : take n left ≡ onDone (r .answer) (filledBy s x y cols rows 0 (take n sheet)) (take n sheet)
+        → (map scratch : List ℤ) → Executed (Erase x y cols rows) (jobState s n sheet map scratch) (r .answer) (jobState (r .session) n left map scratch)
+    erase-executed lent map scratch = record {
+      answer = answer;
+      left =
+          rw (← answer, session, lent, behind, and-false (eqb (r .answer) 0)) (same-state (joined-sheet (eqb (r .answer) 0) _ _ _ _ _) refl refl);
+    }
+
+module _ (s : Session) (n : ℕ) (map : List ℤ) (r : Reply) where
+  pub place-executed : (x y q : ℕ) → r .answer ≡ firstOf (placeTable s (take (2 * n) map) x y q) → r .session ≡ onDone (r .answer) (downAt x y q s) s
+      → (sheet : List ℕ) (scratch : List ℤ) → Executed (Place x y q) (jobState s n sheet map scratch) (r .answer) (jobState (r .session) n sheet map scratch)
+  place-executed x y q answer session sheet scratch = record {
+    answer = answer;
+    left = rw (← answer, session, and-false (eqb (r .answer) 0)) (same-state (joined-session (eqb (r .answer) 0) _ _ _ _) refl refl);
+  }
+
+  pub run-executed : (d k : ℕ) → r .answer ≡ firstOf (runTable s (take (2 * n) map) d k) → r .session ≡ onDone (r .answer) (runSession s d k) s
+      → (sheet : List ℕ) (scratch : List ℤ) → Executed (Run d k) (jobState s n sheet map scratch) (r .answer) (jobState (r .session) n sheet map scratch)
+  run-executed d k answer session sheet scratch = record {
+    answer = answer;
+    left = rw (← answer, session, and-false (eqb (r .answer) 0)) (same-state (joined-session (eqb (r .answer) 0) _ _ _ _) refl refl);
+  }
+
+  pub lift-executed : r .answer ≡ 0 → r .session ≡ liftSession s
+      → (sheet : List ℕ) (scratch : List ℤ) → Executed Lift (jobState s n sheet map scratch) (r .answer) (jobState (r .session) n sheet map scratch)
+  unfolding firstOf
+  lift-executed answer session sheet scratch = record { answer = answer; left = rw session }
+
+module _ (s : Session) (n : ℕ) (sheet : List ℕ) (map scratch : List ℤ) (r : Reply) where
+  pub build-executed : (e : ℕ) (left used : List ℤ) → r .answer ≡ firstOf (buildTable s (take n sheet) (take (2 * n) map) scratch e)
+      → r .session ≡ buildSession s e (r .answer)
+      → take (2 * n) left ≡ buildMap s (take n sheet) (take (2 * n) map) e (r .answer)
+      → drop (2 * n) left ≡ drop (2 * n) map
+      → used ≡ cond (eqb (r .answer) 0 && eqb e 1) (scratchBy s scratch) scratch
+      → Executed (Build e) (jobState s n sheet map scratch) (r .answer) (jobState (r .session) n sheet left used)
+  build-executed e left used answer session lent behind scratch-used = record { answer = answer; left = rw (← answer, session, lent, behind, scratch-used) }
+
+  module _ (q : ℕ) (cut : List ℕ) (left used : List ℤ) (answer : r .answer ≡ firstOf (resizeTable s (take n sheet) (take (2 * n) map) scratch q))
+      (session : r .session ≡ onDone (r .answer) (stale s) s)
+      (behind : drop n cut ≡ drop n sheet)
+      (lent-map : take (2 * n) left ≡ onDone (r .answer) (unmapped (take (2 * n) map)) (take (2 * n) map))
+      (behind-map : drop (2 * n) left ≡ drop (2 * n) map)
+      (used-scratch : used ≡ onDone (r .answer) (scratchBy s scratch) scratch) where
+    pub expand-executed : take n cut ≡ onDone (r .answer) (expanded (s .width) (s .height) q (take n sheet)) (take n sheet)
+        → Executed (Expand q) (jobState s n sheet map scratch) (r .answer) (jobState (r .session) n cut left used)
+    expand-executed lent = record {
+      answer = answer;
+      left =
+          rw (← answer, session, lent, behind, lent-map, behind-map, used-scratch, and-true (eqb (r .answer) 0))
+          (same-state (joined (eqb (r .answer) 0) _ _ _ _ _ _) refl refl);
+    }
+
+    pub shrink-executed : take n cut ≡ onDone (r .answer) (shrunk (s .width) (s .height) q (take n sheet)) (take n sheet)
+        → Executed (Shrink q) (jobState s n sheet map scratch) (r .answer) (jobState (r .session) n cut left used)
+    shrink-executed lent = record {
+      answer = answer;
+      left =
+          rw (← answer, session, lent, behind, lent-map, behind-map, used-scratch, and-true (eqb (r .answer) 0))
+          (same-state (joined (eqb (r .answer) 0) _ _ _ _ _ _) refl refl);
+    }

@@ -1,0 +1,102 @@
+-- The tables of refusals: document 01, its two tables of numbers and the order under them. Each call has one table, 30 first, then ascending. Its answer is
+-- the first number whose condition holds, or 0 (`firstOf`).
+-- Assumes nothing.
+use mathlib.Core.Bool.{Bool, not, _&&_, _||_}
+use mathlib.Core.List.{List, [], _∷_, _++_}
+use Prim.Native.Nat.{ℕ, _+_, _*_}
+use lib.Dec.{eqb, leb, ltb}
+use lib.IntN.{ℤ}
+use lib.ListN.{length}
+use Rattle.raster.specs.Limits.{maxQ, maxCount}
+use Rattle.raster.specs.Map.{hasCopper}
+use Rattle.raster.specs.Refusal.{Table}
+use Rattle.exact.specs.Nearest.{scratchNeed}
+use Rattle.cutter.specs.Gates.{knownEngine, mayStand, leavesSheet, blocked}
+use Rattle.session.specs.declared.Session.{Session}
+use Rattle.session.specs.State.{side, active, cutterOf, ownCutter}
+use Rattle.session.specs.Maps.{overflows}
+
+-- a slice of two numbers a pixel
+abbrev pub isMap : Session → List ℤ → Bool
+isMap s map = eqb (length map) (2 * (s .height * s .width))
+
+-- a slice of other than one byte a pixel; of other than two numbers a pixel; of too few numbers
+abbrev pub notSheet : Session → List ℕ → Bool
+notSheet s sheet = not (eqb (length sheet) (s .height * s .width))
+
+abbrev pub notMap : Session → List ℤ → Bool
+notMap s map = not (isMap s map)
+
+abbrev pub shortScratch : Session → List ℤ → Bool
+shortScratch s scratch = ltb (length scratch) (scratchNeed (s .width) (s .height))
+
+unfoldable pub openTable : List ℕ → (w h : ℕ) → Table
+openTable sheet w h = (not (side w && side h), 11) ∷ (not (eqb (length sheet) (h * w)), 12) ∷ []
+
+-- paint and erase
+unfoldable pub fillTable : Session → List ℕ → (x y cols rows : ℕ) → Table
+fillTable s sheet x y cols rows =
+    (not (active s), 30)
+    ∷ (notSheet s sheet, 12)
+    ∷ ((eqb cols 0 || eqb rows 0) || (ltb (s .width) (x + cols) || ltb (s .height) (y + rows)), 13)
+    ∷ []
+
+-- expand and shrink
+unfoldable pub resizeTable : Session → List ℕ → (map scratch : List ℤ) → (q : ℕ) → Table
+resizeTable s sheet map scratch q =
+    (not (active s), 30)
+    ∷ (notSheet s sheet || (notMap s map || shortScratch s scratch), 12)
+    ∷ (ltb maxQ q, 15)
+    ∷ []
+
+-- skeleton and rebuild: on a current exact map that has copper; `wrong` says that another lent slice is not one byte a pixel
+unfoldable pub readTable : Session → List ℤ → (wrong : Bool) → Table
+readTable s map wrong =
+    (not (active s), 30)
+    ∷ (notMap s map || wrong, 12)
+    ∷ (not (s .current), 31)
+    ∷ (not (eqb (s .engine) 1), 36)
+    ∷ (not (hasCopper (s .height * s .width) map), 37)
+    ∷ []
+
+abbrev pub skeletonTable : Session → List ℤ → (out : List ℕ) → Table
+skeletonTable s map out = readTable s map (notSheet s out)
+
+abbrev pub rebuildTable : Session → List ℤ → (marks out : List ℕ) → Table
+rebuildTable s map marks out = readTable s map (notSheet s marks || notSheet s out)
+
+-- ---- build, place and run: the rows that look at numbers and lengths alone, then one that looks at pixels, which those before it let be read
+
+unfoldable pub buildRows : Session → List ℕ → (map scratch : List ℤ) → (engine : ℕ) → Table
+buildRows s sheet map scratch e =
+    (not (active s), 30)
+    ∷ (notSheet s sheet || (notMap s map || (eqb e 1 && shortScratch s scratch)), 12)
+    ∷ (not (knownEngine e), 14)
+    ∷ []
+
+unfoldable pub buildTable : Session → List ℕ → (map scratch : List ℤ) → (engine : ℕ) → Table
+buildTable s sheet map scratch e = buildRows s sheet map scratch e ++ ((overflows s sheet e, 35) ∷ [])
+
+unfoldable pub placeRows : Session → List ℤ → (x y q : ℕ) → Table
+placeRows s map x y q =
+    (not (active s), 30)
+    ∷ (notMap s map, 12)
+    ∷ (ltb maxQ q, 15)
+    ∷ (leb (s .width) x || leb (s .height) y, 16)
+    ∷ (not (s .current), 31)
+    ∷ []
+
+unfoldable pub placeTable : Session → List ℤ → (x y q : ℕ) → Table
+placeTable s map x y q = placeRows s map x y q ++ ((not (mayStand (cutterOf s x y q) map), 34) ∷ [])
+
+unfoldable pub runRows : Session → List ℤ → (direction count : ℕ) → Table
+runRows s map d n =
+    (not (active s), 30)
+    ∷ (notMap s map, 12)
+    ∷ (ltb 7 d || not (leb 1 n && leb n maxCount), 17)
+    ∷ (not (s .lowered), 32)
+    ∷ (leavesSheet (ownCutter s) d n, 33)
+    ∷ []
+
+unfoldable pub runTable : Session → List ℤ → (direction count : ℕ) → Table
+runTable s map d n = runRows s map d n ++ ((blocked (ownCutter s) map d n, 34) ∷ [])

@@ -1,0 +1,159 @@
+// Which sessions a call could hand back, and how a session changes. Each function is the definition of its name in specs/State.
+ghost use mathlib.Core.Path.{_≡_};
+ghost use Prim.Native.Nat.{_<_, _≤_};
+ghost use Rattle.cutter.specs.Directions.{columnAfter, rowAfter};
+ghost use Rattle.session.specs.State.{
+  side,
+  cutterSound,
+  mapSound,
+  sheetSound,
+  sound,
+  active,
+  cutterUp,
+  openedAs,
+  stale,
+  builtBy,
+  cutterAs,
+  downAt,
+  upOf,
+  cutterOf,
+  ownCutter,
+};
+ghost use Rattle.session.specs.Calls.{runSession};
+use crate::Session;
+use cutter::Cutter;
+
+// ---- which are sound
+
+pub fn is_side(n: u16) -> bool
+    ensures { λ r. ⌜ r ≡ side n ⌝ }
+{
+    (1 <= n) & (n <= Session::MAX_SIDE)
+}
+
+fn is_sheet_sound(s: Session) -> bool
+    ensures { λ r. ⌜ r ≡ sheetSound s ⌝ }
+{
+    if s.opened {
+        return is_side(s.width) & is_side(s.height);
+    }
+    (s.width == 0) & ((s.height == 0) & !s.current)
+}
+
+fn is_map_sound(s: Session) -> bool
+    ensures { λ r. ⌜ r ≡ mapSound s ⌝ }
+{
+    if s.current {
+        return cutter::is_engine(s.engine);
+    }
+    s.engine == 0
+}
+
+fn is_cutter_sound(s: Session) -> bool
+    ensures { λ r. ⌜ r ≡ cutterSound s ⌝ }
+{
+    if s.lowered {
+        return s.current & (((s.x < s.width) & (s.y < s.height)) & (s.q <= Session::MAX_Q));
+    }
+    (s.x == 0) & ((s.y == 0) & (s.q == 0))
+}
+
+pub fn is_sound(s: Session) -> bool
+    ensures { λ r. ⌜ r ≡ sound s ⌝ }
+{
+    is_sheet_sound(s) & (is_map_sound(s) & is_cutter_sound(s))
+}
+
+pub fn is_active(s: Session) -> bool
+    ensures { λ r. ⌜ r ≡ active s ⌝ }
+{
+    s.opened & is_sound(s)
+}
+
+// ---- how one changes
+
+fn cutter_up(opened: bool, w: u16, h: u16, current: bool, engine: u16) -> Session
+    ensures { λ r. ⌜ r ≡ cutterUp opened w h current engine ⌝ }
+{
+    Session {
+        opened,
+        width: w,
+        height: h,
+        current,
+        engine,
+        lowered: false,
+        x: 0,
+        y: 0,
+        q: 0,
+    }
+}
+
+pub fn opened_as(w: u16, h: u16) -> Session
+    ensures { λ r. ⌜ r ≡ openedAs w h ⌝ }
+{
+    cutter_up(true, w, h, false, 0)
+}
+
+pub fn stale_of(s: Session) -> Session
+    ensures { λ r. ⌜ r ≡ stale s ⌝ }
+{
+    opened_as(s.width, s.height)
+}
+
+pub fn built_by(s: Session, engine: u16) -> Session
+    ensures { λ r. ⌜ r ≡ builtBy engine s ⌝ }
+{
+    cutter_up(true, s.width, s.height, true, engine)
+}
+
+fn cutter_as(mut s: Session, lowered: bool, x: u16, y: u16, q: u32) -> Session
+    ensures { λ r. ⌜ r ≡ cutterAs lowered x y q s ⌝ }
+{
+    s.lowered = lowered;
+    s.x = x;
+    s.y = y;
+    s.q = q;
+    s
+}
+
+pub fn down_at(s: Session, x: u16, y: u16, q: u32) -> Session
+    ensures { λ r. ⌜ r ≡ downAt x y q s ⌝ }
+{
+    cutter_as(s, true, x, y, q)
+}
+
+pub fn up_of(s: Session) -> Session
+    ensures { λ r. ⌜ r ≡ upOf s ⌝ }
+{
+    cutter_as(s, false, 0, 0, 0)
+}
+
+// ---- the cutter over the session's map
+
+pub fn cutter_of(s: Session, x: u16, y: u16, q: u32) -> Cutter
+    ensures { λ r. ⌜ r ≡ cutterOf s x y q ⌝ }
+{
+    Cutter {
+        width: s.width,
+        height: s.height,
+        engine: s.engine,
+        x,
+        y,
+        q,
+    }
+}
+
+pub fn own_cutter(s: Session) -> Cutter
+    ensures { λ r. ⌜ r ≡ ownCutter s ⌝ }
+{
+    cutter_of(s, s.x, s.y, s.q)
+}
+
+// The session with its cutter where the run ends.
+pub fn run_to(s: Session, d: u16, count: u16) -> Session
+    requires { ⌜ (d ≤ 7) × ((columnAfter d count (s .x) < s .width) × (rowAfter d count (s .y) < s .height)) ⌝ }
+    ensures { λ r. ⌜ r ≡ runSession s d count ⌝ }
+{
+    let c = cutter::cutter_after(own_cutter(s), d, count);
+    down_at(s, c.x, c.y, c.q)
+}
