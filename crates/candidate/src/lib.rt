@@ -2,7 +2,7 @@
 //
 // Each function that writes the map takes the flag and hands it back: whether a candidate with a component outside ±2,047 was met.
 ghost use mathlib.Core.Path.{_≡_};
-ghost use mathlib.Core.Bool.{true, cond, _&&_};
+ghost use mathlib.Core.Bool.{true, false, cond, _&&_};
 ghost use Prim.Native.Nat.{_+_, _*_, _≤_};
 ghost use lib.Dec.{ltb};
 ghost use lib.IntN.{pos, negsuc, natAbs, _+ℤ_, _-ℤ_};
@@ -144,10 +144,10 @@ pub fn relax(map: &mut [i16], at: usize, n: SizedVector, o: i32) -> SizedVector
 
 // ---- from row to row: o is −1 from the row above and 1 from the row below
 
-// The vector of pixel p with the step (0, o).
+// The vector of pixel p with the step (0, o). Its flag is not set.
 fn ahead(map: &[i16], p: usize, o: i32) -> SizedVector
     requires { ⌜ Inside p (now map) × UnitStep o ⌝ }
-    ensures { λ r. ⌜ Ahead o r (now (map .entry)) p ⌝ }
+    ensures { λ r. ⌜ Ahead o r (now (map .entry)) p × (r .over ≡ false) ⌝ }
 {
     let dx = raster::dx_at(map, p);
     let dy = raster::shifted(raster::dy_at(map, p), o);
@@ -159,10 +159,10 @@ fn ahead(map: &[i16], p: usize, o: i32) -> SizedVector
     }
 }
 
-// What `ahead` gives of a pixel that is not there: the vector of an unlabelled one, with the step (0, o).
+// What `ahead` gives of a pixel that is not there: the vector of an unlabelled one, with the step (0, o). Its flag is not set either.
 pub fn nothing(o: i32) -> SizedVector
     requires { ⌜ UnitStep o ⌝ }
-    ensures { λ r. ⌜ Stepped o r × (unlabelled (r .dx) (r .dy -ℤ o) ≡ true) ⌝ }
+    ensures { λ r. ⌜ (Stepped o r × (unlabelled (r .dx) (r .dy -ℤ o) ≡ true)) × (r .over ≡ false) ⌝ }
 {
     let dy = raster::shifted(-32768, o);
     SizedVector {
@@ -189,7 +189,7 @@ pub fn relax_straight(map: &mut [i16], at: usize, from: usize, o: i32, over: boo
 // The vector of pixel x of the row of w pixels from `start` on, if there is one, with the step (0, o).
 pub fn neighbour(map: &[i16], start: usize, x: usize, w: usize, o: i32) -> SizedVector
     requires { ⌜ (2 * (start + w) ≤ length (now map)) × UnitStep o ⌝ }
-    ensures { λ r. ⌜ IfThere (ltb x w) o r (now (map .entry)) (start + x) ⌝ }
+    ensures { λ r. ⌜ IfThere (ltb x w) o r (now (map .entry)) (start + x) × (r .over ≡ false) ⌝ }
 {
     if x < w {
         return ahead(map, start + x, o);

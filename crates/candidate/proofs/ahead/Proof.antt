@@ -1,6 +1,6 @@
 -- `candidate::ahead` meets its contract, by those of the calls.
 -- Assumes nothing.
-use mathlib.Core.Path.{_≡_, ap, _∙_}
+use mathlib.Core.Path.{_≡_, refl, ap, _∙_}
 use native.Mathlib.Omega.{arith}
 use lib.IntN.{_-ℤ_}
 use mir.Syntax.{w32}
@@ -31,12 +31,14 @@ returns c =
     let s = d .before .before .before in
     let f : SFits w32 (y .result) = record { sfits = y .ok } in
     let e : d .shifted .result -ℤ s .args .o ≡ y .result = ap (λ z. z -ℤ s .args .o) (simp (toZ-ofZ, f, s .fits .o) at (d .shifted .ensures .0)) ∙ forth-back (y .result) (s .args .o) in
-    simp (toZ-ofZ, dx-fits d, dy-fits d)
-    (record {
-      dx = x .ensures .0;
-      dy = e ∙ y .ensures .0;
-      stepped = record { short-dx = x .ensures .1; short-dy = rw e (y .ensures .1); own = simp (toZ-ofZ, dx-fits d, dy-fits d) at (c .size-of .ensures) };
-    })
+    simp (toZ-ofZ, dx-fits d, dy-fits d) (
+      record {
+        dx = x .ensures .0;
+        dy = e ∙ y .ensures .0;
+        stepped = record { short-dx = x .ensures .1; short-dy = rw e (y .ensures .1); own = simp (toZ-ofZ, dx-fits d, dy-fits d) at (c .size-of .ensures) };
+      },
+      refl,
+    )
 
 pub ahead-spec : {M : Type 1} → statement M
 ahead-spec =

@@ -11,12 +11,12 @@ use Rattle.candidate.proofs.neighbour.Tie as tie
 returns : tie.Need-returns
 returns c =
     let h = simp (toZ-ofZ, c .before .before .fits .o) at (c .ahead .ensures) in
-    record { there = λ _. h; none = λ e. absurd (true≢false (sym (lt-ltb _ _ (c .before .if1 .taken)) ∙ e)); stepped = h .stepped }
+    (record { there = λ _. h .0; none = λ e. absurd (true≢false (sym (lt-ltb _ _ (c .before .if1 .taken)) ∙ e)); stepped = h .0 .stepped }, h .1)
 
 returns-2 : tie.Need-returns-2
 returns-2 c =
     let h = simp (toZ-ofZ, c .before .before .fits .o) at (c .nothing .ensures) in
-    record { there = λ e. absurd (true≢false (sym e ∙ le-ltb _ _ (c .before .if1 .left))); none = λ _. h .1; stepped = h .0 }
+    (record { there = λ e. absurd (true≢false (sym e ∙ le-ltb _ _ (c .before .if1 .left))); none = λ _. h .0 .1; stepped = h .0 .0 }, h .1)
 
 pub neighbour-spec : {M : Type 1} → statement M
 neighbour-spec =

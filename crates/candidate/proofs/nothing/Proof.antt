@@ -19,7 +19,7 @@ returns c =
     let f : SFits w32 (y .result) = record { sfits = y .ok } in
     let e : y .result -ℤ s .args .o ≡ mark = ap (λ z. z -ℤ s .args .o) (simp (toZ-ofZ, s .fits .o) at (y .ensures .0)) ∙ forth-back mark (s .args .o) in
     simp (toZ-ofZ, f)
-    (record { short-dx = omega arith; short-dy = rw e (omega arith); own = simp (toZ-ofZ, f) at (c .size-of .ensures) }, rw e refl)
+    ((record { short-dx = omega arith; short-dy = rw e (omega arith); own = simp (toZ-ofZ, f) at (c .size-of .ensures) }, rw e refl), refl)
 
 pub nothing-spec : {M : Type 1} → statement M
 nothing-spec = tie.close (tie.spec (λ c κs. search needs) (λ c κs. search needs) returns)

@@ -19,7 +19,7 @@ returns c =
     let s = b .before .before .before .before .before in
     let a = s .args in
     let o = simp (toZ-ofZ, s .fits .o) at (b .better .ensures) in
-    let h = simp (toZ-ofZ, s .fits .o) at (n .ensures) in
+    let h = simp (toZ-ofZ, s .fits .o) at (n .ensures .0) in
     let v = written-next (a .at) (a .map .now) (n .result .dx) (n .result .dy -ℤ a .o) (pos 0) (a .o) (s .pre .0 .0) (written-first (a .at) (a .map .now) (d .ensures .0) (d .ensures .1)) o in
     written-last (a .at) (a .map .now) v (simp (toZ-ofZ, fits-dx (v .sized), fits-dy (v .sized)) at (c .before .put-at .ensures))
     ∙ at-pixel-offer (a .at) (a .from) (pos 0) (a .o) (state (a .map .now) (a .over)) (h .dx) (h .dy)

@@ -85,15 +85,17 @@ abbrev μ-loop : tie.MeasureT-loop
 loop-holds : tie.Need-loop-holds Inv-loop μ-loop
 unfolding ascend
 loop-holds c =
-    let n = c .before .before .nothing .ensures in
-    (refl, omega arith, refl, record { there = λ e. absurd (false≢true e); none = λ _. n .1; stepped = n .0 }, c .neighbour .ensures)
+    let n = c .before .before .nothing .ensures .0 in
+    (refl, omega arith, refl, record { there = λ e. absurd (false≢true e); none = λ _. n .1; stepped = n .0 }, c .neighbour .ensures .0)
 
 three-requires : tie.Need-three-requires Inv-loop μ-loop
 three-requires c κs =
-    let n = c .before .neighbour2 .ensures in
-    let l = c .before .before .before .before .loop in
+    let l = c .before .before .before .before .loop .inv in
     let s = c .before .before .before .before .before .before .before .before in
-    ((omega arith, (l .inv .3 .stepped, (l .inv .4 .stepped, n .stepped))), simp (toZ-ofZ, s .fits .o) (s .pre .1))
+    let left = l .3 .stepped in
+    let mid = l .4 .stepped in
+    let right = c .before .neighbour2 .ensures .0 .stepped in
+    ((omega arith, (search needs, (search needs, search needs))), simp (toZ-ofZ, s .fits .o) (s .pre .1))
 
 loop-again : tie.Need-loop-again Inv-loop μ-loop
 loop-again c =
@@ -104,7 +106,7 @@ loop-again c =
     let s = c .before .before .before .before .before .before .before .before .before .before in
     let a = s .args in
     let o = toZ w32 (ofZ w32 (a .o)) in
-    let v = turn (a .w) (a .y) (a .before) o (s .pre .0 .0) (l .x) i (state (l .map) (l .met)) (l .inv .3) (l .inv .4) (n .ensures) (t .ensures) in
+    let v = turn (a .w) (a .y) (a .before) o (s .pre .0 .0) (l .x) i (state (l .map) (l .met)) (l .inv .3) (l .inv .4) (n .ensures .0) (t .ensures) in
     (up-turn _ _ _ (v .0) (l .inv .0), omega arith, t .kept .0 ∙ l .inv .2, v .1, v .2)
 
 returns : tie.Need-returns Inv-loop μ-loop
