@@ -1,17 +1,20 @@
--- The entries of the two tables, and one test of all of each, which antt computes: the entry at place k is g at k + 1.
+-- The two constant tables, and one test of all entries of each, which antt computes: the entry at place k is g at k + 1. So each entry is the least over all
+-- whole h and k (`table-rule`).
 -- Assumes nothing.
 use mathlib.Core.Path.{_≡_, refl}
 use mathlib.Core.List.{List, [], _∷_}
-use mathlib.Core.Bool.{true, false, not}
-use Prim.Native.Nat.{ℕ, _+_}
+use mathlib.Core.Bool.{Bool, true, false, not}
+use Prim.Native.Nat.{ℕ, _+_, _-_, _≤_}
+use native.Mathlib.Omega.{arith}
 use lib.Dec.{eqb}
 use lib.ListN.{getD}
 use borrow.Author.Tests.{eqb-true, not-false}
 use Rattle.raster.specs.Distance.{gap}
 use Rattle.raster.specs.Loop.{anyBelow}
 use Rattle.raster.specs.LoopLaws.{any-false}
-use Rattle.skeleton.specs.Table.{g, least}
+use Rattle.skeleton.specs.Table.{g, least, Rule}
 use Rattle.skeleton.specs.Bands.{Listed}
+use Rattle.skeleton.proofs.Outside.{g-rule}
 
 unfoldable pub g4s : List ℕ
 g4s = 0 ∷ 1 ∷ 1 ∷ 1 ∷ 2 ∷ 4 ∷ 4 ∷ 4 ∷ 4 ∷ 5 ∷ 8 ∷ 8 ∷ 8 ∷ 9 ∷ 9 ∷ 9 ∷ 10 ∷ 13 ∷ 13 ∷ 13 ∷ 16 ∷ 16 ∷ 16 ∷ 16 ∷ 16 ∷ 17 ∷ 20 ∷ 20 ∷ 20 ∷ 25 ∷ 25 ∷ 25 ∷ 25 ∷ 25 ∷ 25 ∷ 25 ∷ 26 ∷ 29 ∷ 29 ∷ 29 ∷ 32 ∷ 34 ∷ 34 ∷ 34 ∷ 34 ∷ 36 ∷ 36 ∷ 36 ∷ 36 ∷ 37 ∷ 40 ∷ 40 ∷ 40 ∷ 45 ∷ 45 ∷ 45 ∷ 45 ∷ 45 ∷ 49 ∷ 49 ∷ 49 ∷ 49 ∷ 49 ∷ 49 ∷ 50 ∷ 53 ∷ 53 ∷ 53 ∷ 58 ∷ 58 ∷ 58 ∷ 58 ∷ 58 ∷ 61 ∷ 64 ∷ 64 ∷ 64 ∷ 64 ∷ 64 ∷ 64 ∷ 64 ∷ 65 ∷ 68 ∷ 68 ∷ 68 ∷ 73 ∷ 73 ∷ 73 ∷ 73 ∷ 73 ∷ 80 ∷ 80 ∷ 80 ∷ 80 ∷ 80 ∷ 80 ∷ 80 ∷ 81 ∷ 81 ∷ 81 ∷ 82 ∷ 85 ∷ 85 ∷ 85 ∷ 89 ∷ 89 ∷ 90 ∷ 90 ∷ 90 ∷ 97 ∷ 97 ∷ 97 ∷ 97 ∷ 97 ∷ 97 ∷ 97 ∷ 100 ∷ 100 ∷ 100 ∷ 100 ∷ 100 ∷ 101 ∷ 104 ∷ 104 ∷ 104 ∷ 109 ∷ 109 ∷ 109 ∷ 109 ∷ 109 ∷ 116 ∷ 116 ∷ 116 ∷ 116 ∷ 116 ∷ 116 ∷ 116 ∷ 121 ∷ 121 ∷ 121 ∷ 121 ∷ 121 ∷ 121 ∷ 121 ∷ 122 ∷ 125 ∷ 125 ∷ 125 ∷ 130 ∷ 130 ∷ 130 ∷ 130 ∷ 130 ∷ 136 ∷ 136 ∷ 136 ∷ 136 ∷ 137 ∷ 137 ∷ 137 ∷ 144 ∷ 144 ∷ 144 ∷ 144 ∷ 144 ∷ 144 ∷ 144 ∷ 144 ∷ 144 ∷ 145 ∷ 148 ∷ 148 ∷ 148 ∷ 153 ∷ 153 ∷ 153 ∷ 153 ∷ 153 ∷ 157 ∷ 157 ∷ 160 ∷ 160 ∷ 160 ∷ 160 ∷ 160 ∷ 169 ∷ 169 ∷ 169 ∷ 169 ∷ 169 ∷ 169 ∷ 169 ∷ 169 ∷ 169 ∷ 169 ∷ 169 ∷ 170 ∷ 173 ∷ 173 ∷ 173 ∷ 178 ∷ 178 ∷ 178 ∷ 178 ∷ 178 ∷ 185 ∷ 185 ∷ 185 ∷ 185 ∷ 185 ∷ 185 ∷ 185 ∷ 193 ∷ 193 ∷ 193 ∷ 193 ∷ 193 ∷ 193 ∷ 194 ∷ 194 ∷ 194 ∷ 196 ∷ 196 ∷ 196 ∷ 196 ∷ 197 ∷ 200 ∷ 200 ∷ 200 ∷ 205 ∷ 205 ∷ 205 ∷ 205 ∷ 205 ∷ 212 ∷ 212 ∷ 212 ∷ 212 ∷ 212 ∷ 212 ∷ 212 ∷ 218 ∷ 218 ∷ 218 ∷ 218 ∷ 221 ∷ 221 ∷ 221 ∷ 221 ∷ 221 ∷ 225 ∷ 225 ∷ 225 ∷ 225 ∷ 225 ∷ 225 ∷ 226 ∷ 229 ∷ 229 ∷ 229 ∷ 232 ∷ 234 ∷ 234 ∷ 234 ∷ 234 ∷ 241 ∷ 241 ∷ 241 ∷ 241 ∷ 241 ∷ 241 ∷ 241 ∷ 245 ∷ 245 ∷ 250 ∷ 250 ∷ 250 ∷ 250 ∷ 250 ∷ 250 ∷ 250 ∷ 256 ∷ 256 ∷ 256 ∷ 256 ∷ 256 ∷ 256 ∷ 256 ∷ 256 ∷ 257 ∷ 260 ∷ 260 ∷ 260 ∷ 265 ∷ 265 ∷ 265 ∷ 265 ∷ 265 ∷ 272 ∷ 272 ∷ 272 ∷ 272 ∷ 272 ∷ 272 ∷ 272 ∷ 277 ∷ 281 ∷ 281 ∷ 281 ∷ 281 ∷ 281 ∷ 281 ∷ 281 ∷ 281 ∷ 289 ∷ 289 ∷ 289 ∷ 289 ∷ 289 ∷ 289 ∷ 289 ∷ 289 ∷ 289 ∷ 289 ∷ 290 ∷ 293 ∷ 293 ∷ 293 ∷ 298 ∷ 298 ∷ 298 ∷ 298 ∷ 298 ∷ 305 ∷ 305 ∷ 305 ∷ 305 ∷ 305 ∷ 305 ∷ 305 ∷ 314 ∷ 314 ∷ 314 ∷ 314 ∷ 314 ∷ 314 ∷ 314 ∷ 314 ∷ 314 ∷ 320 ∷ 320 ∷ 320 ∷ 320 ∷ 324 ∷ 324 ∷ 324 ∷ 324 ∷ 324 ∷ 324 ∷ 324 ∷ 324 ∷ 325 ∷ 328 ∷ 328 ∷ 328 ∷ 333 ∷ 333 ∷ 333 ∷ 333 ∷ 333 ∷ 338 ∷ 338 ∷ 338 ∷ 340 ∷ 340 ∷ 340 ∷ 340 ∷ 349 ∷ 349 ∷ 349 ∷ 349 ∷ 349 ∷ 349 ∷ 349 ∷ 349 ∷ 349 ∷ 353 ∷ 353 ∷ 356 ∷ 360 ∷ 360 ∷ 360 ∷ 360 ∷ 360 ∷ 360 ∷ 360 ∷ 360 ∷ 361 ∷ 361 ∷ 361 ∷ []
@@ -35,3 +38,20 @@ side-entries = record { long = refl; entry = λ k l. eqb-true _ _ (not-false _ (
 pub corner-entries : Listed true g8s
 unfolding g8s
 corner-entries = record { long = refl; entry = λ k l. eqb-true _ _ (not-false _ (any-false 400 _ k corners l)) }
+
+-- ---- the rule of every entry
+
+-- the table for corners, and that for sides
+abbrev pub table : (corner : Bool) → List ℕ
+table true = g8s
+table false = g4s
+
+listed : (corner : Bool) → Listed corner (table corner)
+listed true = corner-entries
+listed false = side-entries
+
+-- of either table the entry of n, from 1 to 400, is the least (h − 1)² + k², or (h − 1)² + (k − 1)², over all whole h, k with h² + k² at least n
+pub table-rule : (corner : Bool) (n : ℕ) → 1 ≤ n → n ≤ 400 → Rule corner n (getD (table corner) (n - 1) 0)
+table-rule corner n one small =
+    let e : n - 1 + 1 ≡ n = omega arith in
+    rw (listed corner .entry (n - 1) (omega arith), e) (g-rule corner n small)
