@@ -1,4 +1,4 @@
--- `Theorems` is the guarantee; what stands above it leads up to it.
+-- `Theorems` is the guarantee; what stands above it leads up to it. `Rebuilding` is what skeleton and rebuild guarantee on the exact map.
 pub mod Gates
 pub mod Answers
 pub mod Sound
@@ -8,3 +8,4 @@ pub mod Steps
 pub mod Theorems
 pub mod Jobs
 pub mod Table
+pub mod Rebuilding

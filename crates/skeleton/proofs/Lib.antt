@@ -1,4 +1,5 @@
--- `Theorems` is what callers cite of skeleton and rebuild; what stands above it leads up to it. Below it: what the proofs of the functions share.
+-- Callers cite `Theorems`, to which `Disks` leads up, and of `Tables` the rule of all entries, to which `Outside` does. Below: what the proofs of the
+-- functions share.
 pub mod Outside
 pub mod Disks
 pub mod Theorems
