@@ -208,6 +208,9 @@ fn starts(cost: &[u32], n: usize, site: &[u16], start: &mut [u16], count: usize)
 }
 
 // The envelope of all sites; the number of entries.
+//
+// The contract fixes who holds each place: its best site. It leaves free which other sites stand on the stack as entries that hold no place, and what `site`
+// and `start` have from the number of entries on. Of these it asks only that every entry is a site of the line (`Envelope` of specs/Stack.antt).
 pub fn build(cost: &[u32], n: usize, site: &mut [u16], start: &mut [u16]) -> usize
     requires { ⌜ Line (now cost) n (now site) (now start) ⌝ }
     ensures { λ r. ⌜ Envelope (now (cost .entry)) n (now (site .exit)) (now (start .exit)) r ⌝ }
