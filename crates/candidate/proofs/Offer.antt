@@ -1,4 +1,4 @@
--- One candidate, as the code takes it: of vectors (`Offered`), and then of the map, where one or more candidates in turn at a pixel are one write
+-- One candidate, as the code takes it. First on vectors (`Offered`); then on the map, where candidates that come in turn at one pixel are one write
 -- (`Written`).
 -- Assumes nothing.
 use mathlib.Core.Path.{_≡_, refl, sym, ap, ap₂, _∙_}

@@ -1,3 +1,3 @@
--- `Candidate` is document 01's; `Holding` is what the functions promise each other, and those of scan, of the vectors that they carry.
+-- `Candidate` is document 01's candidate. `Holding` is what the functions, and those of scan, promise each other about the vectors that they carry.
 pub mod Candidate
 pub mod Holding

@@ -56,7 +56,7 @@ fn growth(v: i32, o: i32) -> u32
     4096
 }
 
-// Whether a neighbour whose vector is c, stepped up or down already, has a candidate in the range at the step o to the side.
+// Whether the candidate of a neighbour is in the range. c is the neighbour's vector after the step up or down, o the step to the side.
 fn is_allowed(c: SizedVector, o: i32) -> bool
     requires { ⌜ Short (c .dx) × UnitStep o ⌝ }
     ensures { λ r. ⌜ r ≡ inRange (c .dx +ℤ o) && inRange (c .dy) ⌝ }
@@ -64,7 +64,7 @@ fn is_allowed(c: SizedVector, o: i32) -> bool
     raster::in_range(raster::shifted(c.dx, o)) & raster::in_range(c.dy)
 }
 
-// The size of that candidate, from the size of c.
+// The size of the candidate that c and the step o to the side give, from the size of c.
 fn size_after(c: SizedVector, o: i32) -> u32
     requires { ⌜ (c .size ≡ size (c .dx) (c .dy)) × (UnitStep o × (inRange (c .dx +ℤ o) && inRange (c .dy) ≡ true)) ⌝ }
     ensures { λ r. ⌜ r ≡ size (c .dx +ℤ o) (c .dy) ⌝ }
@@ -72,8 +72,8 @@ fn size_after(c: SizedVector, o: i32) -> u32
     c.size + growth(c.dx, o) - 4096
 }
 
-// What a pixel that holds d holds after the candidate of a neighbour at (ox, oy) whose vector with the step (0, oy) is c. That of an unlabelled one is
-// never in the range, so the flag needs a look at the neighbour only where the candidate is not.
+// What a pixel that holds d holds after the candidate of a neighbour at (ox, oy); c is the neighbour's vector after the step (0, oy). The candidate of an
+// unlabelled neighbour is never in the range. So the code asks whether the neighbour is labelled only where the candidate is out of the range.
 fn better(d: SizedVector, c: SizedVector, ox: i32, oy: i32) -> SizedVector
     requires { ⌜ (Sized d × Stepped oy c) × (UnitStep ox × UnitStep oy) ⌝ }
     ensures { λ r. ⌜ Offered d (c .dx) (c .dy -ℤ oy) ox oy r ⌝ }

@@ -1,4 +1,4 @@
--- The signed numbers of the ways, once: what `farther` and `shorter` make of a number by the tests on its sign, and that it fits.
+-- The signed numbers of the ways: what `farther` and `shorter` make of a number by the tests on its sign, and that it fits.
 -- Assumes nothing.
 use mathlib.Core.Path.{_≡_, refl, sym}
 use mathlib.Core.Bool.{true, false, true≢false}

@@ -22,7 +22,7 @@ price-height : (G : List ℕ) (x k : ℕ) → price G x k + 2 * (x * k) ≡ x * 
 unfolding heightOf
 price-height G x k = omega (arith, price-sum x k (getD G k 0))
 
--- what three prices have to do with the line through the points of the outer two: a, b and k are d and e apart
+-- three sites a, b and k, where b lies d to the right of a and k lies e to the right of b: how their prices A, B, K at x go with their heights u, v, w
 chord : (x a d e b k A B K u v w : ℕ) → a + d ≡ b → b + e ≡ k → A + 2 * (x * a) ≡ x * x + u → B + 2 * (x * b) ≡ x * x + v → K + 2 * (x * k) ≡ x * x + w
     → K * d + A * e + v * (d + e) ≡ B * (d + e) + w * d + u * e
 chord x a d e b k A B K u v w p q hA hB hK =
@@ -33,7 +33,7 @@ module _ (G : List ℕ) (x a b k : ℕ) (l : a < b) (m : b < k) where
   prices : price G x k * (b - a) + price G x a * (k - b) + heightOf G b * ((b - a) + (k - b)) ≡ price G x b * ((b - a) + (k - b)) + heightOf G k * (b - a) + heightOf G a * (k - b)
   prices = chord x a (b - a) (k - b) b k _ _ _ _ _ _ (omega arith) (omega arith) (price-height G x a) (price-height G x b) (price-height G x k)
 
-  -- the test, on the same sums
+  -- `aboveChord`, written with the sums of `prices`
   on-or-above : aboveChord G a b k ≡ true → heightOf G k * (b - a) + heightOf G a * (k - b) ≤ heightOf G b * ((b - a) + (k - b))
   unfolding aboveChord
   on-or-above e = let d : (b - a) + (k - b) ≡ k - a = omega arith in rw d (leb-true _ _ e)
@@ -42,21 +42,21 @@ module _ (G : List ℕ) (x a b k : ℕ) (l : a < b) (m : b < k) where
   unfolding aboveChord
   below e = let d : (b - a) + (k - b) ≡ k - a = omega arith in rw d (leb-false _ _ e)
 
-  -- what lies on or above the line costs no less than a, or more than k
+  -- if b lies on or above the line, it costs no less than a, or more than k
   above-loses : aboveChord G a b k ≡ true → (price G x a ≤ price G x b) ⊎ (price G x k < price G x b)
   above-loses e = ⊎-elim (λ h. inr (⊎-elim (λ i. i) (λ i. absurd (no h i)) (order (price G x k) (price G x b)))) (λ h. inl h) (order (price G x b) (price G x a))
     where
       no : price G x b < price G x a → price G x b ≤ price G x k → ⊥
       no h i = omega (arith, prices, on-or-above e, mul-le-mul-right (k - b) h, mul-le-mul-right (b - a) i)
 
-  -- below the line: where k costs less than b, b costs less than a
+  -- if b lies below the line, it costs less than a wherever k costs less than b
   under-wins : aboveChord G a b k ≡ false → price G x k < price G x b → price G x b < price G x a
   under-wins e h = ⊎-elim (λ i. i) (λ i. absurd (no i)) (order (price G x b) (price G x a))
     where
       no : price G x a ≤ price G x b → ⊥
       no i = omega (arith, prices, below e, mul-le-mul-right (k - b) i, mul-le-mul-right (b - a) h)
 
-  -- below the line and no lower than a: k is no lower than b
+  -- if b lies below the line and no lower than a, then k is no lower than b
   pub under-upward : aboveChord G a b k ≡ false → heightOf G a ≤ heightOf G b → heightOf G b ≤ heightOf G k
   under-upward e h = ⊎-elim (λ i. absurd (no i)) (λ i. i) (order (heightOf G k) (heightOf G b))
     where
@@ -122,7 +122,7 @@ module _ (G : List ℕ) (k : ℕ) (site : List ℕ) (c : ℕ) (h : Hull G k site
         holds = λ x. rw (add-one k, better-none G x (bestSite G k x) k i) (h .holds x);
       }
 
-  -- it is one
+  -- the place k is a site
   module _ (i : Site G k) where
     pub half-all : Half G k site c
     unfolding bestSite
@@ -230,14 +230,16 @@ module _ (G : List ℕ) (n : ℕ) (site : List ℕ) (count : ℕ) (start : List 
     abbrev cost : ℕ → ℕ
     cost j = price G x (getD site j 0)
 
-    -- going left, prices that rise go on rising; going right likewise
+    -- an entry that costs more than the one to its right costs less than the one to its left; an entry that costs no less than the one to its left costs
+    -- no more than the one to its right
     leftward : (j : ℕ) → suc (suc j) < count → cost (suc (suc j)) < cost (suc j) → cost (suc j) < cost j
     leftward j l = under-wins G x (getD site j 0) (getD site (suc j) 0) (getD site (suc (suc j)) 0) (h .rising j (omega arith)) (h .rising (suc j) l) (h .convex j l)
 
     rightward : (j : ℕ) → suc (suc j) < count → cost j ≤ cost (suc j) → cost (suc j) ≤ cost (suc (suc j))
     rightward j l m = ⊎-elim (λ i. absurd (omega (arith, leftward j l i))) (λ i. i) (order (cost (suc (suc j))) (cost (suc j)))
 
-    -- so every entry to the left of one that costs less than the one before it costs more, and every one to the right of one that does not no less
+    -- so where prices fall from an entry to the next, all entries up to the first cost more than the second; and where they do not fall, all later entries
+    -- cost no less than the first
     left : (j : ℕ) → suc j < count → cost (suc j) < cost j → (i : ℕ) → i ≤ j → cost (suc j) < cost i
     left zero l m i k = let e : i ≡ 0 = omega arith in rw e m
     left (suc j) l m i k =
@@ -265,7 +267,7 @@ module _ (G : List ℕ) (n : ℕ) (site : List ℕ) (count : ℕ) (start : List 
         (λ a. let e : j ≡ i = omega arith in rw e (h .rising i l))
         (order j i)
 
-    -- the entry between is the best
+    -- an entry that costs less than the one before it, and no more than the one after it, is the best
     lowest : (j : ℕ) → j < count → ((i : ℕ) → suc i ≡ j → cost j < cost i) → (suc j < count → cost j ≤ cost (suc j)) → getD site j 0 ≡ bestSite G n x
     lowest j l down up = ⊎-elim (λ e. absurd (nobody e)) (λ m. found m) (h .holds x)
       where
@@ -291,7 +293,7 @@ module _ (G : List ℕ) (n : ℕ) (site : List ℕ) (count : ℕ) (start : List 
             (λ a. ⊎-elim (λ b. absurd (later (m .entry) b (m .below) (m .is))) (λ b. let e : j ≡ m .entry = omega arith in rw e (sym (m .is))) (order j (m .entry)))
             (order (m .entry) j)
 
-    -- the last entry that starts at or before x is the best: of the first j + 1, if that after them costs no less than the last of them
+    -- of the first j + 1 entries the last that starts at or before x is the best site, if the entry after them costs no less than the last of them
     held : (j : ℕ) → j < c → (suc j < count → cost j ≤ cost (suc j)) → holder site start (suc j) x ≡ bestSite G n x
     unfolding holder
     held zero l up = rw (le-leb (getD start 0 0) x (omega (arith, s .first l))) (lowest 0 (omega (arith, s .fewer)) (λ i e. absurd (omega arith)) up)
@@ -312,7 +314,7 @@ module _ (G : List ℕ) (n : ℕ) (site : List ℕ) (count : ℕ) (start : List 
         top : getD start (suc j) 0 ≤ x → getD site (suc j) 0 ≡ bestSite G n x
         top a = lowest (suc j) (omega (arith, s .fewer)) (after a) up
 
-    -- that after the last start would start beyond the line
+    -- the entry after the last that has a start would start beyond the line, so it costs no less
     last : (j : ℕ) → suc j ≡ c → suc j < count → cost j ≤ cost (suc j)
     last j e l =
         let b : n ≤ crossing G (getD site j 0) (getD site (suc j) 0) = rw e (s .beyond j e (rw e at l)) in

@@ -1,4 +1,4 @@
--- The laws that the functions of the stack cite, and that a reader of it does.
+-- `StackLaws` is what callers cite that read the stack. `HullLaws` and `Turns` are what the functions' proofs cite.
 pub mod StackLaws
 mod HullLaws
 mod Turns

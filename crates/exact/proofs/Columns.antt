@@ -51,7 +51,7 @@ module _ (copper : Mask) (w h : ℕ) (wide : w ≤ maxSide) (tall : h ≤ maxSid
       let s : gap y r ≤ 2047 = omega arith in
       (omega (arith, c, mul-le-mul s s), rw c)
 
-  -- so is a column with copper, and its price is at most the squared distance of each copper pixel
+  -- a column with copper is a site, and its price is at most the squared distance of each of its copper pixels
   column : (i j : ℕ) → Copper copper w h i j → Site G i × (price G x i ≤ apart x y i j)
   column i j c = go (feet i (c .across)) (costs i (c .across))
     where

@@ -1,4 +1,4 @@
--- The signed numbers of a row, once: what `wayCost` makes of a way by the test for the mark, and that it and the way from column to column fit.
+-- The signed numbers of a row: what `wayCost` makes of a way by the test for the mark, and that it and the way from column to column fit.
 -- Assumes nothing.
 use mathlib.Core.Path.{_≡_, refl}
 use mathlib.Core.Bool.{Bool, true, false, cond}

@@ -21,7 +21,7 @@ module _ (s : ℕ) (few : s < 2048) where
   pub along-site : (v : ℕ → ℤ) → v s ≡ siteWay v s
   along-site v = rw (ne-eqb s noSite (omega arith))
 
--- and the vector to itself is none at all
+-- the vector from a copper pixel to itself is (0, 0)
 pub across-self : (x : ℕ) → x < 2048 → (pos 0 ≡ across x x) × (pos 0 ≡ siteWay (λ b. pos 0) x)
 across-self x few = (sym (+ℤ-invr (pos x)) ∙ across-site x few x, along-site x few (λ b. pos 0))
 

@@ -46,7 +46,7 @@ copper-each ways x (suc n) e k i l = elim (ℕ-discrete k (x + n)) [
 
 -- ---- the best site
 
--- there is one
+-- a place has one best site only
 one-best : {G : List ℕ} {n x a b : ℕ} → Found G n x a → Found G n x b → a ≡ b
 one-best (inl p) (inl q) = p .0 ∙ sym (q .0)
 one-best (inl p) (inr q) = absurd (p .1 _ (q .below) (q .site))

@@ -41,7 +41,7 @@ fn way_at(ways: &[i16], i: usize) -> i32
     ways[i] as i32
 }
 
-// The ways of the row that starts at `base`.
+// Copies the ways of the row that starts at `base`.
 fn copy_row(map: &[i16], base: usize, w: usize, ways: &mut [i16])
     requires { ⌜ (base + w ≤ length (now map)) × (w ≤ length (now ways)) ⌝ }
     ensures { λ _. ⌜ now (ways .exit) ≡ tabulate w (wayAt (now (map .entry)) base) ++ drop w (now (ways .entry)) ⌝ }
@@ -81,7 +81,7 @@ fn write_run(map: &mut [i16], base: usize, from: usize, to: usize, s: usize, v: 
     }
 }
 
-// The first n pixels of the row are unlabelled.
+// Leaves the first n pixels of the row unlabelled.
 fn clear_run(map: &mut [i16], base: usize, n: usize)
     requires { ⌜ 2 * (base + n) ≤ length (now map) ⌝ }
     ensures { λ _. ⌜ Written base 0 n (λ b. pos 0) (λ x. noSite) (now (map .entry)) (now (map .exit)) ⌝ }
@@ -302,7 +302,7 @@ fn solve_rows(
     }
 }
 
-// The same, in working rows of its own.
+// All rows, from the last, in local working rows.
 fn solve(map: &mut [i16], w: usize, h: usize)
     requires { ⌜ (2 * (h * w) ≤ length (now map)) × (w ≤ 2048) ⌝ }
     ensures { λ _. ⌜ Solved w h (now (map .entry)) (now (map .exit)) ⌝ }
@@ -316,7 +316,7 @@ fn solve(map: &mut [i16], w: usize, h: usize)
 
 // ---- the map
 
-// The first n numbers at 0.
+// Sets the first n numbers to 0.
 fn zero(scratch: &mut [i16], n: usize)
     requires { ⌜ n ≤ length (now scratch) ⌝ }
     ensures { λ _. ⌜ now (scratch .exit) ≡ cleared n (now (scratch .entry)) ⌝ }

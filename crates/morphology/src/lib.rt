@@ -10,7 +10,7 @@ ghost use Rattle.exact.specs.Nearest.{scratchNeed, scratchLeft};
 ghost use Rattle.morphology.specs.Resize.{expanded, shrunk};
 ghost use Rattle.morphology.specs.Threshold.{turned, flipped, thresholded};
 
-// Copper becomes bare, bare copper.
+// Turns every pixel of the sheet: copper becomes bare, bare copper.
 fn flip(sheet: &mut [u8])
     ensures { λ _. ⌜ now (sheet .exit) ≡ flipped (now (sheet .entry)) ⌝ }
 {
@@ -19,6 +19,7 @@ fn flip(sheet: &mut [u8])
     }
 }
 
+// One pixel turned: 1 for a bare one, 0 for copper.
 fn inverted(byte: u8) -> u8
     ensures { λ r. ⌜ r ≡ turned byte ⌝ }
 {
@@ -39,7 +40,7 @@ fn level(map: &[i16], p: usize, q: u32, near: u8) -> u8
     inverted(near)
 }
 
-// Every pixel of the sheet by the size at it.
+// Writes every pixel of the sheet by its size, as `level` says.
 fn threshold(map: &[i16], sheet: &mut [u8], q: u32, near: u8)
     requires { ⌜ (length (now map) ≡ 2 * length (now sheet)) × (near ≤ 1) ⌝ }
     ensures { λ _. ⌜ now (sheet .exit) ≡ thresholded (now (map .entry)) q near (length (now (sheet .entry))) ⌝ }

@@ -1,4 +1,4 @@
--- A row of a sheet: how it starts, one byte more.
+-- A row of a sheet that is written byte by byte: the law for no byte, and that for one byte more.
 -- Assumes nothing.
 use mathlib.Core.Path.{_≡_, refl, _∙_}
 use mathlib.Core.List.{List}

@@ -1,4 +1,4 @@
--- Signed numbers, once. What the machine reads back from the bits of a number that fits is the number (`toZ-ofZ`), and 0 − z is negℤ z (`+ℤ-idl`). So an
+-- All facts about signed numbers that the proofs need. What the machine reads back from the bits of a number that fits is the number (`toZ-ofZ`), and 0 − z is negℤ z (`+ℤ-idl`). So an
 -- answer says `simp (toZ-ofZ, +ℤ-idl, facts that each number fits) t`, and t speaks of plain numbers of ℤ, by the lemmas below.
 -- Assumes nothing.
 use mathlib.Core.Path.{_≡_, refl}

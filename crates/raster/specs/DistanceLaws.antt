@@ -67,7 +67,7 @@ pub apart-swap : (x y i j : ℕ) → apart x y i j ≡ apart i j x y
 unfolding apart
 apart-swap x y i j = rw (gap-swap x i, gap-swap y j)
 
--- and only from itself
+-- a pixel at squared distance 0 from another is that pixel
 pub apart-zero : (x y i j : ℕ) → apart x y i j ≡ 0 → (x ≡ i) × (y ≡ j)
 unfolding apart
 apart-zero x y i j e =

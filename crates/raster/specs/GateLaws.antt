@@ -13,7 +13,7 @@ use Rattle.raster.specs.Pixels.{Mask}
 use Rattle.raster.specs.Vector.{size, Target}
 use Rattle.raster.specs.VectorLaws.{ends-size}
 
--- it passes: whatever squared distance e bounds the size is above q
+-- the pixel passes: every e whose fraction bounds the size is above q
 pub passed-above : (g : Gate) (a q e : ℕ) → g .den * a ≤ g .num * e → passes g a q ≡ true → q < e
 unfolding passes
 passed-above g a q e bound p = elim (decLt q e) [
@@ -21,11 +21,11 @@ passed-above g a q e bound p = elim (decLt q e) [
   | no n ↦ absurd (omega (arith, ltb-true (g .num * q) (g .den * a) p, mul-le-mul-left (g .num) (let f : e ≤ q = omega arith in f)))
 ]
 
--- it fails: the size is within the fraction of q
+-- the pixel fails: its size is within the fraction of q
 failed-within : (g : Gate) (a q : ℕ) → passes g a q ≡ false → g .den * a ≤ g .num * q
 unfolding passes
 failed-within g a q p = ltb-false (g .num * q) (g .den * a) p
 
--- it fails at a vector that ends on copper: some copper is within the fraction of q
+-- the pixel fails, and its vector ends on copper: some copper is within the fraction of q
 pub failed-near : (g : Gate) {copper : Mask} {w h x y q : ℕ} {dx dy : ℤ} → Target copper w h x y dx dy → passes g (size dx dy) q ≡ false → NearBy g copper w h x y q
 failed-near g t p = record { column = t .column; row = t .row; copper = t .on-copper; within = rw (← ends-size (t .ends)) (failed-within g _ _ p) }

@@ -1,4 +1,4 @@
--- Tests: what one that held or failed says, `&` and `|` of two, and a fact of both outcomes of one.
+-- Laws of tests: what a test says that held or failed, what `&` and `|` of two tests say, and how a fact of both outcomes becomes a fact of the test.
 -- Assumes nothing.
 use mathlib.Core.Path.{_≡_, refl, sym, subst}
 use mathlib.Core.Bool.{Bool, true, false, not, cond, _&&_, _||_}

@@ -35,7 +35,7 @@ pub fn size_of(dx: i32, dy: i32) -> u32
     x * x + y * y
 }
 
-// Both components hold the mark.
+// Whether both components hold the mark.
 pub fn is_unlabelled(dx: i32, dy: i32) -> bool
     ensures { λ r. ⌜ r ≡ unlabelled dx dy ⌝ }
 {
@@ -50,14 +50,14 @@ pub fn shifted(v: i32, o: i32) -> i32
     v + o
 }
 
-// −2,047 to 2,047.
+// Whether z lies within ±2,047.
 pub fn in_range(z: i32) -> bool
     ensures { λ r. ⌜ r ≡ inRange z ⌝ }
 {
     (-2048 < z) & (z < 2048)
 }
 
-// The two components at pixel p.
+// The first component at pixel p.
 pub fn dx_at(map: &[i16], p: usize) -> i32
     requires { ⌜ Inside p (now map) ⌝ }
     ensures { λ r. ⌜ (r ≡ dxAt (now (map .entry)) p) × Short r ⌝ }
@@ -65,6 +65,7 @@ pub fn dx_at(map: &[i16], p: usize) -> i32
     map[2 * p] as i32
 }
 
+// The second component at pixel p.
 pub fn dy_at(map: &[i16], p: usize) -> i32
     requires { ⌜ Inside p (now map) ⌝ }
     ensures { λ r. ⌜ (r ≡ dyAt (now (map .entry)) p) × Short r ⌝ }
@@ -98,7 +99,7 @@ pub fn put_at(map: &mut [i16], p: usize, dx: i32, dy: i32)
     map[2 * p + 1] = dy as i16;
 }
 
-// Every component at the mark: no pixel has a vector.
+// Sets every component to the mark, so that no pixel has a vector.
 pub fn clear_map(map: &mut [i16])
     ensures { λ _. ⌜ now (map .exit) ≡ unmapped (now (map .entry)) ⌝ }
 {
@@ -119,7 +120,7 @@ pub fn has_copper(map: &[i16], n: usize) -> bool
     found
 }
 
-// Every byte v.
+// Sets every byte to v.
 pub fn fill(s: &mut [u8], v: u8)
     ensures { λ _. ⌜ now (s .exit) ≡ replicate (length (now (s .entry))) v ⌝ }
 {
@@ -128,14 +129,14 @@ pub fn fill(s: &mut [u8], v: u8)
     }
 }
 
-// Every pixel bare.
+// Makes every pixel bare.
 pub fn clear_sheet(sheet: &mut [u8])
     ensures { λ _. ⌜ now (sheet .exit) ≡ bare (now (sheet .entry)) ⌝ }
 {
     fill(sheet, 0);
 }
 
-// The value v at n places from `start` on.
+// Writes v at n places from `start` on.
 fn fill_span(sheet: &mut [u8], start: usize, n: usize, v: u8)
     requires { ⌜ start + n ≤ length (now sheet) ⌝ }
     ensures { λ _. ⌜ now (sheet .exit) ≡ spanned start n v (now (sheet .entry)) ⌝ }
@@ -143,7 +144,7 @@ fn fill_span(sheet: &mut [u8], start: usize, n: usize, v: u8)
     fill(&mut sheet[start..start + n], v);
 }
 
-// The value v in the rectangle of cols × rows pixels whose upper left one is (x, y), on a sheet of w × h.
+// Writes v in the rectangle of cols × rows pixels whose upper left one is (x, y), on a sheet of w × h.
 pub fn fill_rectangle(
     sheet: &mut [u8],
     w: usize,

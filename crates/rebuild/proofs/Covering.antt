@@ -72,7 +72,7 @@ module _ {m : List ℤ} {w : ℕ} {marks cost : List ℕ} (h y : ℕ) (p : Price
       let s : Site cost i = omega arith in
       (s, omega (arith, p .sizes i l s))
 
-  -- and back
+  -- a site of the row whose price stays below 2^31 is a pixel that covers
   to-cover : (i : ℕ) → i < w → Site cost i → gap z y * gap z y + price cost x i < 2147483648 → covers m w h marks x z i y ≡ true
   unfolding copperOf apart priceOf
   to-cover i l s f =

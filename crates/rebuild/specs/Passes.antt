@@ -42,15 +42,15 @@ Costs cost n = (k : ℕ) → k < n → Site cost k → getD cost k 0 ≤ 2147483
 abbrev pub hits : (t x s g k : ℕ) → Bool
 hits t x s g k = ltb ((k - t) * (k - t) + priceOf x s g) 2147483648
 
--- the site b (`noSite`: none) does
+-- the site b covers it; `noSite` covers nothing
 abbrev pub hitBy : (cost : List ℕ) (t x b k : ℕ) → Bool
 hitBy cost t x b k = cond (eqb b noSite) false (hits t x b (getD cost b 0) k)
 
--- from the t-th row on, r says what r₀ says or `hit`
+-- from the t-th row of the pass on, a row lies before r exactly if `hit` holds of it or it lies before r₀
 pub record Raised (t h : ℕ) (hit : ℕ → Bool) (r₀ r : ℕ) : Type 0 where
   pub says : (k : ℕ) → t ≤ k → k < h → ltb k r ≡ hit k || ltb k r₀
 
--- the same of the columns from `from` to `to` − 1, and nothing else changes
+-- every column from `from` to `to` − 1 is so raised, and nothing else changes
 pub record RowRaised (t h from to : ℕ) (hit : ℕ → ℕ → Bool) (before after : List ℕ) : Type 0 where
   pub long : length after ≡ length before
   pub here : (x : ℕ) → from ≤ x → x < to → Raised t h (hit x) (getD before x 0) (getD after x 0)

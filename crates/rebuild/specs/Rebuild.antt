@@ -17,7 +17,7 @@ module _ (m : List ℤ) (w h : ℕ) where
   covers marks x y i j =
       (copperOf marks w i j && not (unlabelledAt m (index w i j))) && ltb (apart x y i j) (sizeAt m (index w i j))
 
-  -- some marked pixel does
+  -- some marked pixel covers (x, y)
   unfoldable pub covered : (marks : List ℕ) → Mask
   covered marks x y = anyBelow w (λ i. anyBelow h (λ j. covers marks x y i j))
 

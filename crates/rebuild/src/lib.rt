@@ -30,7 +30,7 @@ fn cost_of(map: &[i16], marks: &[u8], p: usize) -> u32
     2147483648 - raster::size_at(map, p)
 }
 
-// The costs of the row that starts at `base`.
+// Writes the costs of the row that starts at `base`.
 fn price_row(map: &[i16], marks: &[u8], base: usize, w: usize, cost: &mut [u32])
     requires { ⌜ (2 * (base + w) ≤ length (now map)) × ((base + w ≤ length (now marks)) × (w ≤ length (now cost))) ⌝ }
     ensures { λ _. ⌜ Priced (now (map .entry)) (now (marks .entry)) base w (now (cost .exit)) ⌝ }
@@ -137,7 +137,7 @@ fn covered_or(hit: bool, v: u8) -> u8
     v
 }
 
-// 1 at the covered pixels of the t-th row, which starts at `base`.
+// Writes 1 at the covered pixels of the t-th row, which starts at `base`.
 fn mark_row(out: &mut [u8], base: usize, n: usize, t: usize, reach: &[u16])
     requires { ⌜ (base + n ≤ length (now out)) × (n ≤ length (now reach)) ⌝ }
     ensures { λ _. ⌜ RowWritten base n (λ x. cond (ltb t (getD (now (reach .entry)) x 0)) 1 (getD (now (out .entry)) (base + x) 0)) (now (out .entry)) (now (out .exit)) ⌝ }
@@ -209,7 +209,7 @@ fn pass_rows(
     }
 }
 
-// The same, in working rows of its own.
+// A pass over all rows, in local working rows.
 fn pass(map: &[i16], marks: &[u8], out: &mut [u8], w: usize, h: usize, up: bool)
     requires { ⌜ (w ≤ 2048) × (h ≤ 2048) ⌝ }
     requires { ⌜ (length (now map) ≡ 2 * (h * w)) × ((length (now marks) ≡ h * w) × (length (now out) ≡ h * w)) ⌝ }

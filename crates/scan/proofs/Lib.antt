@@ -1,4 +1,4 @@
--- `Theorems` is what callers cite of the scans; what stands above it leads up to it. `Sowing` is what the proof of `sow` cites.
+-- `Theorems` is what callers cite of the scans; what stands above it leads up to it. `Sowing` is what the proof of `write_seeds` cites.
 pub mod Seeds
 pub mod Sound
 pub mod Within

@@ -21,7 +21,7 @@ use Rattle.candidate.specs.Candidate.{allowed, overs, relax}
 use Rattle.candidate.proofs.Neighbours.{offer-ind}
 
 module _ (copper : Mask) (w h : ℕ) where
-  -- the vector at every labelled pixel does
+  -- the vector at every labelled pixel ends on copper
   pub record Sound (m : List ℤ) : Type 0 where
     pub long : length m ≡ 2 * (h * w)
     pub target : (x y : ℕ) → x < w → y < h → unlabelledAt m (index w x y) ≡ false

@@ -24,7 +24,7 @@ pub record Good (dx dy : ℤ) (K : ℕ) : Type 0 where
   pub labelled : unlabelled dx dy ≡ false
   pub near : 144 * size dx dy ≤ K * K
 
--- the vector at pixel p is
+-- the vector at pixel p is within K
 abbrev pub Within : (m : List ℤ) (p K : ℕ) → Type 0
 Within m p K = Good (dxAt m p) (dyAt m p) K
 

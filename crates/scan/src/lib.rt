@@ -28,7 +28,7 @@ fn rightward(map: &mut [i16], w: usize, y: usize, over: bool) -> bool
     last.over
 }
 
-// The same row: right to left, each pixel from its right neighbour.
+// Row y of a map of width w: right to left, each pixel from its right neighbour.
 fn leftward(map: &mut [i16], w: usize, y: usize, over: bool) -> bool
     requires { ⌜ (0 < w) × (2 * (y * w + w) ≤ length (now map)) ⌝ }
     ensures { λ r. ⌜ state (now (map .exit)) r ≡ leftward w y (state (now (map .entry)) over) ⌝ }

@@ -30,7 +30,7 @@ module _ {start n : ℕ} {f : ℕ → ℕ} {s : List ℕ} where
   part-other : (p v : ℕ) → Part start n f s → ((i : ℕ) → i < n → start + i ≢ p) → Part start n f (set s p v)
   part-other p v r d = record { entry = λ i m. getD-set-other s p (start + i) v 0 (d i m) ∙ r .entry i m }
 
--- so it is with the ends
+-- a write at another place leaves the ends of the parts as they are
 framed-set : {w : ℕ} {s : List ℕ} (p v : ℕ) → Framed w s → ((k : ℕ) → k ≤ 2 → (2050 * k ≢ p) × (2050 * k + (w + 1) ≢ p)) → Framed w (set s p v)
 framed-set {w} {s} p v f d = record {
   long = length-set s p v ∙ f .long;
@@ -102,7 +102,7 @@ zeros-more {n} {s} r l = rw (zero-add n) at (part-more r (omega arith) refl)
 zero-at : {s : List ℕ} → Blank s → (p : ℕ) → p < 6150 → getD s p 0 ≡ 0
 zero-at b p l = rw (zero-add p) at (b .zeros .entry p l)
 
--- a new one
+-- a new band is blank
 pub blank : Blank (replicate 6150 0)
 blank = record { long = refl; zeros = record { entry = λ i l. getD-replicate 6150 (0 + i) 0 0 (omega arith) } }
 

@@ -868,7 +868,7 @@ fn measure_row(map: &[i16], base: usize, w: usize, g4: &[u16], g8: &[u16], band:
     }
 }
 
-// Every number 0.
+// Sets every number to 0.
 fn clear(band: &mut [u32])
     requires { ⌜ length (now band) ≡ 6150 ⌝ }
     ensures { λ _. ⌜ Blank (now (band .exit)) ⌝ }
@@ -891,7 +891,7 @@ fn fill_band(map: &[i16], w: usize, h: usize, y: usize, g4: &[u16], g8: &[u16], 
     clear(band);
 }
 
-// One of three neighbours takes off a pixel of size s.
+// Whether one of three neighbours takes off a pixel of size s; a, b and c are their entries.
 fn taken(s: u32, a: u32, b: u32, c: u32) -> bool
     ensures { λ r. ⌜ r ≡ eqb a s || (eqb b s || eqb c s) ⌝ }
 {

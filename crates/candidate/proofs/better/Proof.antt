@@ -43,7 +43,7 @@ returns c =
     (ap (λ (u : Bool). not u || a .d .over)
     (simp (toZ-ofZ, fits-dx-ahead n, fits-dy-ahead n (s .pre .1 .1), s .fits .oy, fits-dy-back n) at (c .before .before .is-unlabelled .ensures)))
 
--- one in the range
+-- a candidate in the range
 size-after-requires : tie.Need-size-after-requires
 size-after-requires c κs =
     let s = c .before .before in

@@ -39,7 +39,7 @@ returns c =
     let v = written-next (a .at) (a .map .now) (a .n .dx) (a .n .dy) (a .o) (pos 0) (s .pre .0) (written-first (a .at) (a .map .now) (h .0) (h .1)) o in
     (written-last (a .at) (a .map .now) v (put-kept (a .at) (a .map .now) (dx ∙ h .0 .dx) (dy ∙ h .0 .dy)), record { dx = dx ∙ h .0 .dx; dy = dy ∙ h .0 .dy; sized = v .sized })
 
--- one in the range
+-- a candidate in the range
 size-after-requires : tie.Need-size-after-requires
 size-after-requires c κs =
     let s = c .before .before .before .before in
@@ -63,7 +63,7 @@ candidate c =
       over = z .before .before .before .read .result .over;
     }
 
--- it is smaller
+-- the candidate is smaller
 smaller : (c : tie.After-shifted) → let r = c .before .before .before .before .before .before .before in
     let a = r .before .before .args in Offered (r .read .result) (a .n .dx) (a .n .dy) (a .o) (pos 0) (candidate c)
 smaller c =
@@ -93,7 +93,7 @@ returns-2 c =
     let v = written-next (a .at) (a .map .now) (a .n .dx) (a .n .dy) (a .o) (pos 0) (s .pre .0) (written-first (a .at) (a .map .now) (h .0) (h .1)) (smaller p) in
     (written-last (a .at) (a .map .now) v e, rw e (held (a .at) (a .map .now) (s .pre .0) (v .sized)))
 
--- it is not
+-- the candidate is not smaller
 returns-3 : tie.Need-returns-3
 returns-3 c =
     let z = c .before .before in

@@ -28,7 +28,7 @@ near-dx s =
     let a = s .args in
     near (a .c .dx) (a .o) (s .pre .1 .0) (range-abs (a .c .dx +ℤ a .o) (and-left (inRange (a .c .dx +ℤ a .o)) _ (s .pre .1 .1)))
 
--- its size
+-- the size of c, before the step
 own : (s : tie.Start) → s .args .c .size ≡ square (s .args .c .dx) + square (s .args .c .dy)
 unfolding size
 own s = s .pre .0

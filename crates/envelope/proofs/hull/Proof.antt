@@ -1,4 +1,4 @@
--- `envelope::hull` meets its contract: the invariant: the hull of the sites below k stands, in a slice of the same length (`Hulled`). The measure is what is left of n.
+-- `envelope::hull` meets its contract. The invariant: the hull of the sites below k stands, in a slice of the same length (`Hulled`). The measure is what is left of n.
 -- Assumes nothing.
 use Prim.Native.Nat.{_-_}
 use native.Mathlib.Omega.{arith}

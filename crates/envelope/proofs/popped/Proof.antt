@@ -1,4 +1,4 @@
--- `envelope::popped` meets its contract: the invariant: at most `count` entries are left, b is the site of the last, and the best is k or one of them (`Popping`). The measure
+-- `envelope::popped` meets its contract. The invariant: at most `count` entries are left, b is the site of the last, and the best is k or one of them (`Popping`). The measure
 -- is the count.
 -- Assumes nothing.
 use native.Mathlib.Omega.{arith}

@@ -1,4 +1,4 @@
--- `envelope::starts` meets its contract: the invariant: the first j entries have their starts, in a slice of the same length. The measure is what is left of the count.
+-- `envelope::starts` meets its contract. The invariant: the first j entries have their starts, in a slice of the same length. The measure is what is left of the count.
 -- Assumes nothing.
 use Prim.Native.Nat.{_-_, _<_, _≤_}
 use native.Mathlib.Omega.{arith}
