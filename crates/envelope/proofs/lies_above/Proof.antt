@@ -7,7 +7,18 @@ use Rattle.envelope.proofs.lies_above.Tie as tie
 
 returns : tie.Need-returns
 unfolding aboveChord
-returns c = cc
+returns c =
+    let b = c .before in
+    let k = b .before .before in
+    let a = k .before .before in
+    rw (
+      c .scaled3 .ensures .0,
+      b .height3 .ensures .0,
+      b .before .scaled2 .ensures .0,
+      k .height2 .ensures .0,
+      k .before .scaled .ensures .0,
+      a .height .ensures .0,
+    )
 
 pub lies-above-spec : {M : Type 1} → statement M
 lies-above-spec =
