@@ -1,7 +1,13 @@
 -- `scan::scan` meets its contract, by those of the three calls in order.
 -- Assumes nothing.
+use mathlib.Core.Path.{ap, _∙_}
+use mathlib.Core.Bool.{false}
+use mathlib.Core.List.{List}
+use lib.IntN.{ℤ}
 use borrow.Author.Needs.{needs}
-use Rattle.scan.specs.Scan.{scanned}
+use Rattle.raster.specs.Loop.{ascend, descend}
+use Rattle.candidate.specs.Candidate.{state}
+use Rattle.scan.specs.Scan.{downRow, upRow, scanned}
 use Rattle.scan.proofs.scan.Statement.{statement}
 use Rattle.scan.proofs.scan.Tie as tie
 
@@ -9,7 +15,10 @@ returns : tie.Need-returns
 unfolding scanned
 returns c =
     let d = c .before .before .before .before in
-    rw (c .before .scan-up .ensures, d .scan-down .ensures, d .before .before .before .write-seeds .ensures)
+    let s = d .before .before .before in
+    let a = s .before .before .before .args in
+    c .before .scan-up .ensures
+    ∙ ap (descend (upRow (a .w) (a .corners) (a .h)) (a .h)) (d .scan-down .ensures ∙ ap (λ (m : List ℤ). ascend (downRow (a .w) (a .corners)) (a .h) (state m false)) (s .write-seeds .ensures))
 
 pub scan-spec : {M : Type 1} → statement M
 scan-spec =

@@ -1,7 +1,8 @@
 -- `skeleton::measure_row` meets its contract. The invariant: the first x columns are measured.
 -- Assumes nothing.
-use mathlib.Core.Path.{_≡_, _∙_}
-use Prim.Native.Nat.{_-_, _≤_}
+use mathlib.Core.Path.{_≡_, ap₂, _∙_}
+use mathlib.Core.Bool.{Bool, cond}
+use Prim.Native.Nat.{ℕ, _-_, _≤_}
 use native.Mathlib.Omega.{arith}
 use lib.ListN.{length-set}
 use Rattle.skeleton.specs.Bands.{BandFilled}
@@ -27,7 +28,8 @@ loop-again c =
     let l = n .before .before in
     let p = l .before .before .before .before .pre in
     let k = n .size-at .result in (
-      measured-more (l .loop .inv .0) (omega arith) (p .0 .1) (o .own-size .ensures ∙ rw (u .unlabelled-at .ensures, n .size-at .ensures .0))
+      measured-more (l .loop .inv .0) (omega arith) (p .0 .1)
+          (o .own-size .ensures ∙ ap₂ (λ (t : Bool) (v : ℕ). cond t 0 v) (u .unlabelled-at .ensures) (n .size-at .ensures .0))
           (s .taken-off .ensures ∙ listed-at (p .1 .0) k ∙ rw (n .size-at .ensures .0)) (c .taken-off2 .ensures ∙ listed-at (p .1 .1 .0) k ∙ rw (n .size-at .ensures .0)),
       omega arith,
     )
