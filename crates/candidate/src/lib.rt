@@ -165,11 +165,12 @@ pub fn nothing(o: i32) -> SizedVector
     ensures { λ r. ⌜ (Stepped o r × (unlabelled (r .dx) (r .dy -ℤ o) ≡ true)) × (r .over ≡ false) ⌝ }
 {
     let dy = raster::shifted(-32768, o);
+    let over = false;
     SizedVector {
         dx: -32768,
         dy,
         size: raster::size_of(-32768, dy),
-        over: false,
+        over,
     }
 }
 
