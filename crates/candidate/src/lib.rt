@@ -1,5 +1,8 @@
 // What a pixel holds after the candidates of its neighbours (document 01, "Engines"): its vector, the size of that, and the flag of refusal 35.
 //
+// A candidate's size comes from its neighbour's: a step o adds 2vo + o² to the square of v, so that nothing is multiplied out twice. The three neighbours of
+// a pixel in the row before are looked at together, with one read and one write of the pixel.
+//
 // Each function that writes the map takes the flag and hands it back: whether a candidate with a component outside ±2,047 was met.
 ghost use mathlib.Core.Path.{_≡_};
 ghost use mathlib.Core.Bool.{true, false, cond, _&&_};
@@ -116,8 +119,8 @@ pub fn read(map: &[i16], p: usize, over: bool) -> SizedVector
 pub fn relax(map: &mut [i16], at: usize, n: SizedVector, o: i32) -> SizedVector
     requires { ⌜ Inside at (now map) ⌝ }
     requires { ⌜ Sized n × UnitStep o ⌝ }
-    ensures { λ r. ⌜ state (now (map .exit)) (r .over) ≡ offerFlagged at (n .dx) (n .dy) o (pos 0) (state (now (map .entry)) (n .over)) ⌝ }
-    ensures { λ r. ⌜ AtPixel r (now (map .exit)) at ⌝ }
+    ensures written { λ r. ⌜ state (now (map .exit)) (r .over) ≡ offerFlagged at (n .dx) (n .dy) o (pos 0) (state (now (map .entry)) (n .over)) ⌝ }
+    ensures handed_on { λ r. ⌜ AtPixel r (now (map .exit)) at ⌝ }
 {
     let d = read(map, at, n.over);
     if !is_allowed(n, o) {

@@ -1,6 +1,7 @@
 // How far the nearest copper of each pixel's column is, up or down, whichever is shorter: two passes over the rows, in row order of memory.
 //
 // The pass down leaves the ways upwards, the pass up turns them into the shorter ones. A pass holds the ways of the row before in a local row of 2,048 numbers.
+// A way is a number a pixel, and numbers that lie side by side let the compiler work on eight at once.
 ghost use mathlib.Core.Path.{_≡_};
 ghost use mathlib.Core.Bool.{not};
 ghost use Prim.Native.Nat.{ℕ, _+_, _*_, _≤_, _<_};

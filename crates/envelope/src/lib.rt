@@ -97,8 +97,8 @@ fn push(cost: &[u32], n: usize, k: usize, site: &mut [u16], count: usize, top: u
     requires { ⌜ (n ≤ 2048) × ((n ≤ length (now cost)) × (n ≤ length (now site))) ⌝ }
     requires { ⌜ Hull (now cost) k (now site) count ⌝ }
     requires { ⌜ (k < n) × (Site (now cost) k × (0 < count → top ≡ getD (now site) (count - 1) 0)) ⌝ }
-    ensures { λ r. ⌜ Hull (now (cost .entry)) (k + 1) (now (site .exit)) r ⌝ }
-    ensures { λ r. ⌜ getD (now (site .exit)) (r - 1) 0 ≡ k ⌝ }
+    ensures hulled { λ r. ⌜ Hull (now (cost .entry)) (k + 1) (now (site .exit)) r ⌝ }
+    ensures on_top { λ r. ⌜ getD (now (site .exit)) (r - 1) 0 ≡ k ⌝ }
 {
     let c = popped(cost, n, k, site, count, top);
     site[c] = k as u16;

@@ -284,7 +284,7 @@ module _ {b : Board} {w : World} (inv : Inv b w) where
 
     -- single steps lead to the pixels that the code works out
     steps-reach : RunGranted s (w .map) d n → (i : ℕ) → i ≤ n → walk d i (pos (s .x), pos (s .y)) ≡ (pos (columnAfter d i (s .x)), pos (rowAfter d i (s .y)))
-    steps-reach g i high = reached (ownCutter s) d (g .on .known) (g .cutter .across) (g .cutter .down) n (g .stays) i high
+    steps-reach g i high = reached (ownCutter s) d (g .on .known) (g .cutter .across) (g .cutter .down) n (g .inside) i high
 
     -- each step of a run that is done ends free of copper
     frees : RunGranted s (w .map) d n → blocked (ownCutter s) (w .map) d n ≡ false → (i x y : ℕ) → 1 ≤ i → i ≤ n

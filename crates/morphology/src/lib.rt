@@ -1,4 +1,7 @@
 // Expand and shrink (document 01, "Calls"), by the exact map.
+//
+// Shrink turns the sheet round, builds the exact map of its bare pixels and keeps what is farther than q. A bare pixel is within q of itself, so that no test
+// of what was copper is needed (`stays-is`).
 ghost use mathlib.Core.Path.{_≡_};
 ghost use mathlib.Core.Bool.{cond};
 ghost use Prim.Native.Nat.{_+_, _*_, _≤_, _<_};

@@ -175,8 +175,8 @@ fn pass_row(
     requires { ⌜ (w ≤ 2048) × ((h ≤ 2048) × (t < h)) ⌝ }
     requires { ⌜ (length (now map) ≡ 2 * (h * w)) × ((length (now marks) ≡ h * w) × (length (now out) ≡ h * w)) ⌝ }
     requires { ⌜ (w ≤ length (now reach)) × ((w ≤ length (now cost)) × ((w ≤ length (now site)) × (w ≤ length (now start)))) ⌝ }
-    ensures { λ _. ⌜ RowRaised t h 0 w (λ x k. rowCovers (now (map .entry)) w h (now (marks .entry)) x (passRow up h k) (passRow up h t)) (now (reach .entry)) (now (reach .exit)) ⌝ }
-    ensures { λ _. ⌜ RowWritten (passRow up h t * w) w (λ x. cond (ltb t (getD (now (reach .exit)) x 0)) 1 (getD (now (out .entry)) (passRow up h t * w + x) 0)) (now (out .entry)) (now (out .exit)) ⌝ }
+    ensures raised { λ _. ⌜ RowRaised t h 0 w (λ x k. rowCovers (now (map .entry)) w h (now (marks .entry)) x (passRow up h k) (passRow up h t)) (now (reach .entry)) (now (reach .exit)) ⌝ }
+    ensures marked { λ _. ⌜ RowWritten (passRow up h t * w) w (λ x. cond (ltb t (getD (now (reach .exit)) x 0)) 1 (getD (now (out .entry)) (passRow up h t * w + x) 0)) (now (out .entry)) (now (out .exit)) ⌝ }
 {
     let base = row_of(t, h, up) * w;
     price_row(map, marks, base, w, cost);

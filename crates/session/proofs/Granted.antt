@@ -166,7 +166,7 @@ pub record RunGranted (s : Session) (map : List ℤ) (direction n : ℕ) : Type 
   pub lowered : s .lowered ≡ true
   pub cutter : Lowered s
   pub steps : 1 ≤ n
-  pub stays : leavesSheet (ownCutter s) direction n ≡ false
+  pub inside : leavesSheet (ownCutter s) direction n ≡ false
   pub on : OnSheet (ownCutter s) map direction n
 
 pub run-granted : (s : Session) (map : List ℤ) (d n : ℕ) {answer : ℕ} → answer ≡ firstOf (runRows s map d n) → answer ≡ 0 → RunGranted s map d n
@@ -181,7 +181,7 @@ run-granted s map d n table done =
       lowered = not-false _ (f 3);
       cutter = cutter;
       steps = leb-true 1 n (and-left (leb 1 n) _ counted);
-      stays = f 4;
+      inside = f 4;
       on = on-sheet (ownCutter s) d known (cutter .across) (cutter .down) n (eqb-true _ _ (not-false _ (f 1))) (f 4);
     }
 
