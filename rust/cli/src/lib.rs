@@ -14,9 +14,12 @@
 pub mod trial;
 
 use std::ffi::{OsStr, OsString};
+use std::fmt::Display;
 use std::fs;
 use std::io::{self, Read, Write};
+use std::ops::RangeInclusive;
 use std::process::ExitCode;
+use std::str::FromStr;
 
 /// Why a tool stops before its work is done.
 #[derive(Debug, PartialEq, Eq)]
@@ -32,41 +35,62 @@ pub enum Stop {
 pub fn run<Output: Into<Vec<u8>>>(usage: &str, tool: impl FnOnce(&[OsString]) -> Result<Output, Stop>) -> ExitCode {
     let words: Vec<OsString> = std::env::args_os().skip(1).collect();
     let output = if asks_for_help(&words) { Ok(usage.into()) } else { tool(&words).map(Into::into) };
-    match output.and_then(|bytes| write(&bytes)) {
+    match output.and_then(|bytes| write_to(&mut io::stdout().lock(), &bytes)) {
         Ok(()) => ExitCode::SUCCESS,
         Err(stop) => ExitCode::from(report(usage, &stop, &mut io::stderr())),
     }
 }
 
-/// Writes bytes to standard output, to the last one.
-pub fn write(bytes: &[u8]) -> Result<(), Stop> {
-    write_to(&mut io::stdout().lock(), bytes)
-}
-
 /// The bytes of the one file that the words name, or of standard input if there are no words.
 pub fn input(words: &[OsString]) -> Result<Vec<u8>, Stop> {
-    if let Some(option) = words.iter().find(|word| is_option(word)) {
-        return Err(unknown(option));
-    }
+    no_options(words)?;
     match words {
         [] => standard_input(),
         [file] => fs::read(file).map_err(|error| Stop::Failed(format!("`{}` cannot be read: {error}", file.display()))),
-        [_, more, ..] => Err(Stop::Refused(format!("`{}` is one word too many", more.display()))),
+        [_, more, ..] => Err(too_many(more)),
     }
+}
+
+/// The number within bounds that a word is. The refusal calls it by its name in the use.
+pub fn number<Number>(name: &str, bounds: RangeInclusive<Number>, word: &OsStr) -> Result<Number, Stop>
+where
+    Number: FromStr + PartialOrd + Display,
+{
+    let number = word.to_str().and_then(|word| word.parse().ok()).filter(|number| bounds.contains(number));
+    let (least, most) = (bounds.start(), bounds.end());
+    number.ok_or_else(|| Stop::Refused(format!("{name} is a number from {least} to {most}, not `{}`", word.display())))
+}
+
+/// Whether a word is an option, known or not.
+pub fn is_option(word: &OsStr) -> bool {
+    word.as_encoded_bytes().starts_with(b"-")
+}
+
+/// Refuses the first option among the words, where the tool knows none.
+pub fn no_options(words: &[OsString]) -> Result<(), Stop> {
+    words.iter().find(|word| is_option(word)).map_or(Ok(()), |option| Err(unknown(option)))
 }
 
 /// The refusal of a word or an option that the tool does not know.
 pub fn unknown(word: &OsStr) -> Stop {
-    let what = if is_option(word) { "option" } else { "word" };
-    Stop::Refused(format!("unknown {what} `{}`", word.display()))
+    Stop::Refused(format!("unknown {} `{}`", kind(word), word.display()))
+}
+
+/// The refusal of a word or an option after all that the tool takes.
+pub fn too_many(word: &OsStr) -> Stop {
+    Stop::Refused(format!("`{}` is one {} too many", word.display(), kind(word)))
+}
+
+fn kind(word: &OsStr) -> &'static str {
+    if is_option(word) {
+        "option"
+    } else {
+        "word"
+    }
 }
 
 fn asks_for_help(words: &[OsString]) -> bool {
     words.iter().any(|word| word == "-h" || word == "--help")
-}
-
-fn is_option(word: &OsStr) -> bool {
-    word.as_encoded_bytes().starts_with(b"-")
 }
 
 fn standard_input() -> Result<Vec<u8>, Stop> {
@@ -145,6 +169,16 @@ mod tests {
         assert_eq!(input(&words(&["a.job", "-x"])), refused("unknown option `-x`"));
         assert_eq!(input(&words(&["a.job", "b.job"])), refused("`b.job` is one word too many"));
         assert_eq!(unknown(OsStr::new("saw")), Stop::Refused("unknown word `saw`".into()));
+        assert_eq!(too_many(OsStr::new("--slow")), Stop::Refused("`--slow` is one option too many".into()));
+    }
+
+    #[test]
+    fn numbers() {
+        let dozen = |word| number("DOZEN", 1..=12_u8, OsStr::new(word));
+        assert_eq!([dozen("1"), dozen("12")], [Ok(1), Ok(12)]);
+        for word in ["0", "13", "256", "2.5", "two", ""] {
+            assert_eq!(dozen(word), Err(Stop::Refused(format!("DOZEN is a number from 1 to 12, not `{word}`"))));
+        }
     }
 
     #[test]

@@ -4,7 +4,6 @@
 
 mod board;
 pub mod calls;
-pub mod command;
 pub mod lent;
 pub mod library;
 pub mod list;
