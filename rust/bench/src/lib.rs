@@ -2,7 +2,6 @@
 
 #![warn(missing_docs)]
 
-pub mod command;
 pub mod fused;
 pub mod plain;
 pub mod plain_calls;

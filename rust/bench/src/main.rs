@@ -1,13 +1,15 @@
-//! Times the library beside plain Rust and prints a table: see `bench --help`.
+//! Times the library beside plain Rust and writes a table: see `bench --help`.
 //!
 //! A round goes once through all boards and runs each contender on each, so that a slow while of the machine hits all alike. The shortest
 //! time counts.
 
+mod command;
 mod peers;
 
 use abi::session::{Reply, Session};
-use bench::command::{self, Command};
 use bench::plain_calls::{self, FUSED, PLAIN};
+use cli::Stop;
+use command::Command;
 use model::boards::{self, Board};
 use std::process::ExitCode;
 use std::time::{Duration, Instant};
@@ -196,9 +198,10 @@ impl Line {
     }
 }
 
-/// Times what any expand and shrink must do at least, since both leave the sheet, the map and scratch written: to write these slices once.
-fn write_once(rounds: usize) {
-    println!("writing sheet, map and scratch once, 7 bytes a pixel: ns a pixel, the shortest of {rounds} runs\n");
+/// The times of what any expand and shrink must do at least, since both leave the sheet, the map and scratch written: to write these slices
+/// once.
+fn write_once(rounds: usize) -> String {
+    let mut text = format!("writing sheet, map and scratch once, 7 bytes a pixel: ns a pixel, the shortest of {rounds} runs\n\n");
     let mut memory = Memory::new(2_048 * 2_048);
     let mut first = None;
     for side in SIDES {
@@ -214,8 +217,9 @@ fn write_once(rounds: usize) {
             std::hint::black_box(on.map);
         }
         let time = best.as_nanos() as f64 / (side * side) as f64;
-        println!("{side:4}  {time:.2}  to 512: {:.2}", time / *first.get_or_insert(time));
+        text += &format!("{side:4}  {time:.2}  to 512: {:.2}\n", time / *first.get_or_insert(time));
     }
+    text
 }
 
 /// A number of the table, or a dash.
@@ -244,54 +248,43 @@ fn timed(rounds: usize, alone: Option<&str>) -> Vec<Line> {
 }
 
 fn main() -> ExitCode {
-    let words: Vec<String> = std::env::args().skip(1).collect();
-    match command::parse(&words) {
-        Ok(Command::Help) => print!("{}", command::USE),
-        Ok(Command::Table { rounds, alone }) => table(rounds, alone.as_deref()),
-        Ok(Command::Peers { rounds }) => {
-            let boards = boards::BENCHMARK.iter().flat_map(|&name| SIDES.map(|side| (name, boards::benchmark(name, side))));
-            peers::compare(rounds, boards);
-        }
-        Ok(Command::Memory { rounds }) => write_once(rounds),
-        Err(reason) => {
-            eprintln!("bench: {reason}; bench --help prints the use");
-            return ExitCode::from(2);
-        }
-    }
-    ExitCode::SUCCESS
+    cli::run(command::USE, |words| time(command::parse(words)?))
 }
 
-/// Times the calls, or one alone, and prints the table.
-fn table(rounds: usize, alone: Option<&str>) {
-    let lines = timed(rounds, alone);
-    println!("ns a pixel, the shortest of {rounds} runs of each (twice as many at 1,024, four times at 512)");
-    println!("each ratio is the library's time to the one before it; plain is the same call in plain Rust, fused a tuned variant\n");
-    println!(
-        "{:8}  {:11}  {:>4}  {:>7}  {:>5}  {:>5}  {:>5}  {:>5}  {:>7}  library 2,048 / 512",
+/// The table that is asked for.
+fn time(command: Command) -> Result<String, Stop> {
+    match command {
+        Command::Table { rounds, alone } => Ok(table(rounds, &timed(rounds, alone))),
+        Command::Peers { rounds } => {
+            let boards = boards::BENCHMARK.iter().flat_map(|&name| SIDES.map(|side| (name, boards::benchmark(name, side))));
+            peers::table(rounds, boards).map_err(|error| Stop::Failed(format!("the other libraries cannot be timed: {error}")))
+        }
+        Command::Memory { rounds } => Ok(write_once(rounds)),
+    }
+}
+
+/// The lines under their head.
+fn table(rounds: usize, lines: &[Line]) -> String {
+    let mut text = format!("ns a pixel, the shortest of {rounds} runs of each (twice as many at 1,024, four times at 512)\n");
+    text += "each ratio is the library's time to the one before it; plain is the same call in plain Rust, fused a tuned variant\n\n";
+    text += &format!(
+        "{:8}  {:11}  {:>4}  {:>7}  {:>5}  {:>5}  {:>5}  {:>5}  {:>7}  library 2,048 / 512\n",
         "call", "board", "side", "library", "plain", "ratio", "fused", "ratio", "lent"
     );
     for sides in lines.chunks(SIDES.len()) {
         for line in sides {
             let [library, plain, fused] = [0, 1, 2].map(|which| line.nanoseconds(which));
             let over = |other: Option<f64>| Some(library? / other?);
-            print!("{:8}  {:11}  {:4}  {:>7}", line.what, line.name, line.board.w, cell(library));
+            text += &format!("{:8}  {:11}  {:4}  {:>7}", line.what, line.name, line.board.w, cell(library));
             for number in [plain, over(plain), fused, over(fused)] {
-                print!("  {:>5}", cell(number));
+                text += &format!("  {:>5}", cell(number));
             }
-            print!("  {:>4.1} MB", (line.lent * line.board.sheet.len()) as f64 / 1e6);
+            text += &format!("  {:>4.1} MB", (line.lent * line.board.sheet.len()) as f64 / 1e6);
             if line.board.w == 2_048 {
-                print!("  {}", cell(over(sides[0].nanoseconds(0))));
+                text += &format!("  {}", cell(over(sides[0].nanoseconds(0))));
             }
-            println!();
+            text += "\n";
         }
     }
-}
-
-#[cfg(test)]
-mod tests {
-    /// The command line knows the calls that are timed.
-    #[test]
-    fn known_calls() {
-        assert_eq!(super::WHATS.map(|what| what.name), bench::command::CALLS);
-    }
+    text
 }

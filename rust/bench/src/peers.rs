@@ -4,42 +4,50 @@
 use crate::cell;
 use abi::session::Session;
 use model::boards::Board;
-use std::io::{BufRead, BufReader, Write};
+use std::fs;
+use std::io::{self, BufRead, BufReader, Write};
+use std::path::Path;
 use std::process::{Child, Command, Stdio};
 use std::time::{Duration, Instant};
 
-/// Prints the table.
-pub fn compare(rounds: usize, boards: impl Iterator<Item = (&'static str, Board)>) {
-    let mut python = match start(rounds) {
-        Ok(python) => python,
-        Err(error) => return println!("python3 does not start: {error}"),
-    };
-    let mut ask = python.stdin.take().expect("standard input is piped");
-    let mut answers = BufReader::new(python.stdout.take().expect("standard output is piped")).lines();
+/// The table.
+pub fn table(rounds: usize, boards: impl Iterator<Item = (&'static str, Board)>) -> io::Result<String> {
     let folder = std::env::temp_dir().join(format!("pertskhuna-bench-{}", std::process::id()));
-    std::fs::create_dir_all(&folder).expect("a folder for the sheets");
-    println!("the exact map, ns a pixel, the shortest of {rounds} runs of each; a dash where a peer is not installed\n");
-    println!("{:11}  {:>4}  {:>7}  {:>6}  {:>5}  {:>6}  {:>5}", "board", "side", "library", "OpenCV", "ratio", "scipy", "ratio");
-    for (name, board) in boards {
-        let file = folder.join("sheet");
-        std::fs::write(&file, &board.sheet).expect("the sheet is written");
-        let library = library(rounds, &board);
-        writeln!(ask, "{} {} {}", file.display(), board.w, board.h).expect("python reads");
-        let line = answers.next().expect("python answers").expect("python answers in words");
-        let [opencv, scipy] = [0, 1].map(|which| line.split(' ').nth(which).and_then(|time| time.parse::<f64>().ok()));
-        let over = |peer: Option<f64>| Some(library / peer?);
-        print!("{name:11}  {:4}  {library:7.2}", board.w);
-        println!("  {:>6}  {:>5}  {:>6}  {:>5}", cell(opencv), cell(over(opencv)), cell(scipy), cell(over(scipy)));
-    }
-    drop(ask);
-    python.wait().expect("python ends");
-    std::fs::remove_dir_all(&folder).expect("the folder is removed");
+    fs::create_dir_all(&folder)?;
+    let lines = lines(rounds, boards, &folder.join("sheet"));
+    fs::remove_dir_all(&folder)?;
+    let mut text = format!("the exact map, ns a pixel, the shortest of {rounds} runs of each; a dash where a peer is not installed\n\n");
+    text += &format!("{:11}  {:>4}  {:>7}  {:>6}  {:>5}  {:>6}  {:>5}\n", "board", "side", "library", "OpenCV", "ratio", "scipy", "ratio");
+    Ok(text + &lines?)
 }
 
-fn start(rounds: usize) -> std::io::Result<Child> {
+/// A line for each board. Its sheet goes to the peers by a file.
+fn lines(rounds: usize, boards: impl Iterator<Item = (&'static str, Board)>, file: &Path) -> io::Result<String> {
+    let mut python = start(rounds)?;
+    let mut ask = python.stdin.take().expect("standard input is piped");
+    let mut answers = BufReader::new(python.stdout.take().expect("standard output is piped")).lines();
+    let mut text = String::new();
+    for (name, board) in boards {
+        fs::write(file, &board.sheet)?;
+        let library = library(rounds, &board);
+        writeln!(ask, "{} {} {}", file.display(), board.w, board.h)?;
+        let line = answers.next().ok_or_else(|| io::Error::other("python3 ended before its last answer"))??;
+        let [opencv, scipy] = [0, 1].map(|which| line.split(' ').nth(which).and_then(|time| time.parse::<f64>().ok()));
+        let over = |peer: Option<f64>| Some(library / peer?);
+        text += &format!("{name:11}  {:4}  {library:7.2}", board.w);
+        text += &format!("  {:>6}  {:>5}  {:>6}  {:>5}\n", cell(opencv), cell(over(opencv)), cell(scipy), cell(over(scipy)));
+    }
+    drop(ask);
+    python.wait()?;
+    Ok(text)
+}
+
+fn start(rounds: usize) -> io::Result<Child> {
     let script = concat!(env!("CARGO_MANIFEST_DIR"), "/src/peers.py");
     // Debian's Python, which has Debian's packages
-    Command::new("/usr/bin/python3").arg(script).arg(rounds.to_string()).stdin(Stdio::piped()).stdout(Stdio::piped()).spawn()
+    let mut python = Command::new("/usr/bin/python3");
+    let child = python.arg(script).arg(rounds.to_string()).stdin(Stdio::piped()).stdout(Stdio::piped()).spawn();
+    child.map_err(|error| io::Error::new(error.kind(), format!("python3 does not start: {error}")))
 }
 
 /// The library's shortest time, in nanoseconds a pixel.
