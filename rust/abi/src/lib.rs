@@ -1,5 +1,3 @@
 //! The proved library's calls as safe Rust functions, for the tests and the benchmark: see [`session`].
 
-#![warn(missing_docs)]
-
 pub mod session;

@@ -60,13 +60,16 @@ pub struct Reply {
     pub session: Session,
 }
 
+/// The functions of the archive, as `crates/abi/src/lib.rt` exports them: a slice is its pointer and its length.
 mod ffi {
     use super::{Reply, Session};
 
     /// Where a part of a slice stands.
     #[repr(C)]
     pub struct Span {
+        /// The place of its first number.
         pub from: usize,
+        /// How many numbers it has.
         pub len: usize,
     }
 

@@ -4,6 +4,7 @@ use crate::WHATS;
 use cli::Stop;
 use std::ffi::{OsStr, OsString};
 
+/// What `-h` and `--help` write.
 pub const USE: &str = "\
 use: bench [ROUNDS [CALL]]      times the calls of the library, or one alone, beside plain Rust
      bench --peers [ROUNDS]     times the exact map beside other libraries

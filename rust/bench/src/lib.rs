@@ -1,7 +1,5 @@
 //! What the benchmark times the library beside.
 
-#![warn(missing_docs)]
-
 pub mod fused;
 pub mod plain;
 pub mod plain_calls;

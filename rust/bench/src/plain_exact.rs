@@ -124,12 +124,14 @@ fn cost_of(way: i16) -> u32 {
     }
 }
 
-/// An entry of the envelope's stack: a column, the first pixel of the row for which it is the best of the columns so far, and its square
-/// with its cost added.
+/// An entry of the envelope's stack.
 #[derive(Clone, Copy, Default)]
 pub(crate) struct Entry {
+    /// A column.
     pub site: i32,
+    /// The first pixel of the row for which it is the best of the columns so far.
     pub start: i32,
+    /// Its square with its cost added.
     pub sum: i64,
 }
 

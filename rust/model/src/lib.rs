@@ -1,7 +1,5 @@
 //! Document 01 as a plain model, written from the paper and not from the library's code. The tests compare the two.
 
-#![warn(missing_docs)]
-
 pub mod boards;
 pub mod calls;
 pub mod exact;

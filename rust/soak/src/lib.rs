@@ -1,7 +1,5 @@
 //! Lists of calls of the session: made of the library or of the model, compared with the model, and held against the claims of document 01.
 
-#![warn(missing_docs)]
-
 mod board;
 pub mod calls;
 pub mod lent;
