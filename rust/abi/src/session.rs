@@ -1,7 +1,8 @@
 //! The session and its calls.
 //!
 //! Each call takes the session by value and hands it back with its answer number. The calls ask nothing of their caller: any numbers,
-//! slices of any length and sessions with any fields get the answer that is theirs, and none of the calls panics.
+//! slices of any length and sessions with any fields get the answer that is theirs, and none of the calls panics. A refusal hands the
+//! session back as it came and writes nothing, but for 35 of [`Session::build`].
 //!
 //! ```
 //! use abi::session::{Reply, Session};
@@ -27,6 +28,7 @@
 //! ```
 
 /// What a session records. With nothing open the sides are 0, with the map not current the engine is, with the cutter up its pixel and q.
+/// One with fields that no call could hand back counts as one with nothing open.
 #[repr(C)]
 #[derive(Clone, Copy, Debug, PartialEq, Eq)]
 pub struct Session {
@@ -152,7 +154,8 @@ impl Session {
     }
 
     /// Builds the map by engine 1 exact, 2 8SED or 3 4SED. It is then current, the cutter up. Only exact tests and writes scratch, and
-    /// leaves its first W × H numbers at 0. Refusals: 30, 12, 14; 35, which no sheet gives.
+    /// leaves its first W × H numbers at 0. Refusals: 30, 12, 14; 35, which no sheet gives and which would leave the map unlabelled and not
+    /// current, the cutter up.
     pub fn build(self, sheet: &[u8], map: &mut [i16], scratch: &mut [i16], engine: u16) -> Reply {
         let (map, map_len) = (map.as_mut_ptr(), map.len());
         // SAFETY: each pointer comes with the length of the slice it is from, map and scratch are lent to nobody else, and the function has
@@ -204,7 +207,7 @@ impl Session {
     }
 
     /// Writes what the marked pixels of the current exact map cover: 1 at a pixel if its squared distance to some pixel whose mark is not 0
-    /// is below that one's size, 0 elsewhere. Refusals: 30, 12, 31, 36, 37.
+    /// is below that one's size, 0 elsewhere. An unlabelled pixel covers nothing. Refusals: 30, 12, 31, 36, 37.
     pub fn rebuild(self, map: &[i16], marks: &[u8], out: &mut [u8]) -> Reply {
         // SAFETY: each pointer comes with the length of the slice it is from, out is lent to nobody else, and the function has no
         // `requires`. It is proved to return and to stay within the three slices.

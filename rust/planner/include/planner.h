@@ -1,5 +1,5 @@
 /* The proved functions that the planner window calls, for C: link target/staticlib/libplanner.a, which `rt staticlib planner` writes.
- * Neither asks anything of its caller beyond what its parameters' types say, and neither writes anything. */
+ * Any numbers and any bytes get their answer, and nothing is written. */
 #ifndef PLANNER_H
 #define PLANNER_H
 
@@ -16,7 +16,7 @@ struct planner_measured {
     uint32_t q;
 };
 
-/* answer 0: the number of records; 19: the job file does not split, and records is 0. */
+/* answer 0: records holds the number of records; 19: the job file does not split, and records is 0. */
 struct planner_counted {
     uint32_t records;
     uint32_t answer;
@@ -25,7 +25,8 @@ struct planner_counted {
 /* The q of a cutter of radius r where pixels are p apart, both in micrometres: the largest whole number not above r * r / (p * p). */
 struct planner_measured planner_radius(uint32_t r, uint32_t p);
 
-/* The number of records of the job file of `length` bytes at `job`, which is not null, also where `length` is 0. */
+/* The number of records of the job file of `length` bytes at `job`. All of them must be readable, and `job` not null, also where `length`
+ * is 0. */
 struct planner_counted planner_split(const uint8_t *job, size_t length);
 
 #ifdef __cplusplus
