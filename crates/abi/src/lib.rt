@@ -1,4 +1,4 @@
-// The calls of the session, exported for the comparison with Rust and the benchmark. Like those, they ask nothing of their caller.
+// The calls of the session, exported for Rust: the comparison, the benchmark and the pictures of jobs. They ask nothing of their caller.
 ghost use mathlib.Core.Path.{_≡_};
 ghost use mathlib.Core.Bool.{cond, _&&_};
 ghost use lib.Dec.{eqb};

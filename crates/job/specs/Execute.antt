@@ -35,7 +35,7 @@ pub record JobRunning (job : List ℕ) (start : JobState) (empty : List ℕ) (i 
   pub begun : (i ≤ at) × (at ≤ length job)
   pub short : end ≤ 9 * i
 
--- the buffers are those of the bench
+-- the buffers are those of the state
 pub record Buffers (b : JobState) (sheet : List ℕ) (map scratch : List ℤ) : Type 0 where
   pub sheet-left : sheet ≡ sheetBuffer b
   pub map-left : map ≡ mapBuffer b

@@ -1,5 +1,5 @@
-// The answers: each function reads the table of its name in specs/Refusals. Of place and run, a function of its own reads the rows that look at numbers and
-// lengths alone.
+// The answers: each function reads the table of its name in specs/Refusals. Of build, place and run a function reads the rows that look at numbers and lengths
+// alone; what the last row of build asks is known when the map is written.
 ghost use mathlib.Core.Path.{_≡_};
 ghost use Prim.Native.Nat.{_*_};
 ghost use Rattle.raster.specs.Refusal.{firstOf};
