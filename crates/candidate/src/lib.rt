@@ -213,7 +213,10 @@ pub fn three(
 ) -> bool
     requires { ⌜ Inside at (now map) × (Stepped o left × (Stepped o mid × Stepped o right)) ⌝ }
     requires { ⌜ UnitStep o ⌝ }
-    ensures { λ r. ⌜ state (now (map .exit)) r ≡ offerFlagged at (right .dx) (right .dy -ℤ o) (pos 1) o (offerFlagged at (mid .dx) (mid .dy -ℤ o) (pos 0) o (offerFlagged at (left .dx) (left .dy -ℤ o) (negsuc 0) o (state (now (map .entry)) over))) ⌝ }
+    ensures { λ r. ⌜ state (now (map .exit)) r
+        ≡ offerFlagged at (right .dx) (right .dy -ℤ o) (pos 1) o
+        (offerFlagged at (mid .dx) (mid .dy -ℤ o) (pos 0) o
+        (offerFlagged at (left .dx) (left .dy -ℤ o) (negsuc 0) o (state (now (map .entry)) over))) ⌝ }
 {
     let d = read(map, at, over);
     let a = better(d, left, -1, o);

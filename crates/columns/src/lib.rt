@@ -30,7 +30,8 @@ fn step(copper: bool, v: i16) -> i16
 fn row_down(sheet: &[u8], ways: &mut [i16], near: &mut [i16], base: usize, w: usize)
     requires { ⌜ (base + w ≤ length (now sheet)) × ((base + w ≤ length (now ways)) × (w ≤ length (now near))) ⌝ }
     requires { ⌜ ((x : ℕ) → x < w → Room (getD (now near) x (pos 0))) ⌝ }
-    ensures { λ _. ⌜ Spread base w (λ x. not (eqb (getD (now (sheet .entry)) (base + x) 0) 0)) (λ x v. v) (now (ways .entry)) (now (near .entry)) (now (ways .exit)) (now (near .exit)) ⌝ }
+    ensures { λ _. ⌜ Spread base w (λ x. not (eqb (getD (now (sheet .entry)) (base + x) 0) 0)) (λ x v. v)
+        (now (ways .entry)) (now (near .entry)) (now (ways .exit)) (now (near .exit)) ⌝ }
 {
     for x in 0..w {
         let v = step(sheet[base + x] != 0, near[x]);
@@ -82,7 +83,9 @@ fn shorter_of(u: i16, d: i16) -> i16
 fn row_up(ways: &mut [i16], near: &mut [i16], base: usize, w: usize)
     requires { ⌜ (base + w ≤ length (now ways)) × (w ≤ length (now near)) ⌝ }
     requires { ⌜ ((x : ℕ) → x < w → Room (getD (now near) x (pos 0))) ⌝ }
-    ensures { λ _. ⌜ Spread base w (λ x. isZero (getD (now (ways .entry)) (base + x) (pos 0))) (λ x v. shorter (getD (now (ways .entry)) (base + x) (pos 0)) v) (now (ways .entry)) (now (near .entry)) (now (ways .exit)) (now (near .exit)) ⌝ }
+    ensures { λ _. ⌜ Spread base w (λ x. isZero (getD (now (ways .entry)) (base + x) (pos 0)))
+        (λ x v. shorter (getD (now (ways .entry)) (base + x) (pos 0)) v)
+        (now (ways .entry)) (now (near .entry)) (now (ways .exit)) (now (near .exit)) ⌝ }
 {
     for x in 0..w {
         let u = ways[base + x];

@@ -104,7 +104,8 @@ fn write_row(
     requires { ⌜ (2 * (base + n) ≤ length (now map)) × ((n ≤ 2048) × (n ≤ length (now ways))) ⌝ }
     requires { ⌜ (count ≤ length (now site)) × (count ≤ length (now start)) ⌝ }
     requires { ⌜ ((j : ℕ) → j < count → getD (now site) j 0 < n) ⌝ }
-    ensures { λ _. ⌜ Written base 0 n (λ b. getD (now (ways .entry)) b (pos 0)) (holder (now (site .entry)) (now (start .entry)) count) (now (map .entry)) (now (map .exit)) ⌝ }
+    ensures { λ _. ⌜ Written base 0 n (λ b. getD (now (ways .entry)) b (pos 0))
+        (holder (now (site .entry)) (now (start .entry)) count) (now (map .entry)) (now (map .exit)) ⌝ }
 {
     let mut c = count;
     let mut to = n;
@@ -197,7 +198,8 @@ fn solve_part(
 )
     requires { ⌜ (2 * (base + n) ≤ length (now map)) × (n ≤ length (now ways)) ⌝ }
     requires { ⌜ Line (now cost) n (now site) (now start) ⌝ }
-    ensures { λ _. ⌜ Written base 0 n (λ b. getD (now (ways .entry)) b (pos 0)) (bestSite (costsOf (now (ways .entry)) n) n) (now (map .entry)) (now (map .exit)) ⌝ }
+    ensures { λ _. ⌜ Written base 0 n (λ b. getD (now (ways .entry)) b (pos 0))
+        (bestSite (costsOf (now (ways .entry)) n) n) (now (map .entry)) (now (map .exit)) ⌝ }
 {
     price_row(ways, n, cost);
     let count = envelope::build(cost, n, site, start);
@@ -253,7 +255,8 @@ fn solve_parts(
 )
     requires { ⌜ (2 * (base + w) ≤ length (now map)) × (w ≤ length (now ways)) ⌝ }
     requires { ⌜ Line (now cost) w (now site) (now start) ⌝ }
-    ensures { λ _. ⌜ Written base 0 w (λ b. getD (now (ways .entry)) b (pos 0)) (bestSite (costsOf (now (ways .entry)) w) w) (now (map .entry)) (now (map .exit)) ⌝ }
+    ensures { λ _. ⌜ Written base 0 w (λ b. getD (now (ways .entry)) b (pos 0))
+        (bestSite (costsOf (now (ways .entry)) w) w) (now (map .entry)) (now (map .exit)) ⌝ }
 {
     let mut lo: usize = 0;
     let mut done: usize = 0;

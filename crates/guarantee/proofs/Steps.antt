@@ -8,7 +8,7 @@ use Prim.Native.Nat.{ℕ, _+_, _-_, _<_, _≤_}
 use native.Mathlib.Omega.{arith}
 use lib.Dec.{eqb, leb}
 use lib.IntN.{ℤ, pos, natAbs}
-use borrow.Author.Tests.{eqb-true, eqb-false, ne-eqb, leb-true, not-true, not-false}
+use borrow.Author.Tests.{eqb-true, ne-eqb, leb-true, not-true, not-false}
 use Rattle.raster.specs.LoopLaws.{any-found, any-false}
 use Rattle.raster.specs.Distance.{Clear}
 use Rattle.raster.specs.Pixels.{Mask}
@@ -28,7 +28,7 @@ use Rattle.session.specs.Lists.{Lent, Call, opening, paint, erase, build, place
 use Rattle.session.proofs.Granted.{open-granted, fill-granted, Building, build-done, build-overflows, place-done, place-stopped, RunGranted, run-done, run-stopped, resize-granted}
 use Rattle.guarantee.specs.Board.{BoardCutter, up, down, Board, recoppered, withCutter, cutterRun, done, feed}
 use Rattle.guarantee.specs.Claims.{Visits, at-place, at-step, Safe, Fair, Claim, SameCutter, Free}
-use Rattle.guarantee.proofs.Answers.{never}
+use Rattle.guarantee.proofs.Answers.{without, never}
 use Rattle.guarantee.proofs.Sound.{open-sound, stale-sound, built-sound, up-sound, down-sound}
 use Rattle.guarantee.proofs.Copper.{bare-copper, filled-copper, expanded-copper, shrunk-copper}
 use Rattle.guarantee.proofs.Invariant.{CurrentMap, Inv, opens, above, passed-clear, failed-close}
@@ -99,17 +99,18 @@ module _ {b : Board} {w : World} (inv : Inv b w) where
       go false false e f = rw (refused c w e f) inv
 
   -- a call that never answers 35
-  step-holds : (c : Call) → eqb (answer c w) 35 ≡ false → (answer c w ≡ 0 → Safe c b × Inv (done c b) (left c 0 w)) → (answer c w ≡ 34 → Fair c b) → StepHolds c b w
+  step-holds : (c : Call) → without 35 (tableOf c w) ≡ true → (answer c w ≡ 0 → Safe c b × Inv (done c b) (left c 0 w)) → (answer c w ≡ 34 → Fair c b)
+      → StepHolds c b w
   step-holds c no-35 when-done when-34 = record {
     claim = record { safe = λ e. when-done e .0; fair = when-34 };
-    next = after-inv c (λ e. when-done e .1) (λ e. absurd (eqb-false _ 35 no-35 e));
+    next = after-inv c (λ e. when-done e .1) (λ e. absurd (never 35 (tableOf c w) refl no-35 e));
   }
 
-  -- a call that answers neither 34 nor 35 and visits no pixel
-  quiet-step : (c : Call) → eqb (answer c w) 34 ≡ false → eqb (answer c w) 35 ≡ false → ((x y q : ℕ) → Visits c (b .cutter) x y q → ⊥)
+  -- a call that never answers 34 either, and visits no pixel
+  quiet-step : (c : Call) → without 34 (tableOf c w) ≡ true → without 35 (tableOf c w) ≡ true → ((x y q : ℕ) → Visits c (b .cutter) x y q → ⊥)
       → (answer c w ≡ 0 → Inv (done c b) (left c 0 w)) → StepHolds c b w
   quiet-step c no-34 no-35 still when-done =
-      step-holds c no-35 (λ e. ((λ x y q v. absurd (still x y q v)), when-done e)) (λ e. absurd (eqb-false _ 34 no-34 e))
+      step-holds c no-35 (λ e. ((λ x y q v. absurd (still x y q v)), when-done e)) (λ e. absurd (never 34 (tableOf c w) refl no-34 e))
 
   -- the session is stale, the board has the sheet's new copper
   stale-inv : active s ≡ true → (sheet : List ℕ) (map : List ℤ) (copper : Mask)
@@ -124,7 +125,7 @@ module _ {b : Board} {w : World} (inv : Inv b w) where
   pub open-step : (x y : ℕ) (o : Option Lent) → StepHolds (opening x y o) b w
   unfolding openTable
   open-step x y o =
-      quiet-step (opening x y o) (never 34 (openTable (lentTo o w .sheet) x y) refl refl) (never 35 (openTable (lentTo o w .sheet) x y) refl refl) (λ a c q. elim [ ])
+      quiet-step (opening x y o) refl refl (λ a c q. elim [ ])
       (λ e.
       let g = open-granted (lentTo o w .sheet) x y e in
       up-inv x y 0 false (λ i j. false) (bare (lentTo o w .sheet)) (lentTo o w .map) (open-sound x y (g .0)) refl
@@ -148,22 +149,16 @@ module _ {b : Board} {w : World} (inv : Inv b w) where
         stale-inv (fill-granted s (w .sheet) x y cols rows refl e .open-sheet) _ (w .map) copper
         (λ i j k l. filled-copper (s .width) (s .height) i j k l x y cols rows v (w .sheet) ∙ rw (same i j k l) (rule i j))
 
-    no-34 : eqb (firstOf (fillTable s (w .sheet) x y cols rows)) 34 ≡ false
-    unfolding fillTable
-    no-34 = never 34 (fillTable s (w .sheet) x y cols rows) refl refl
-
-    no-35 : eqb (firstOf (fillTable s (w .sheet) x y cols rows)) 35 ≡ false
-    unfolding fillTable
-    no-35 = never 35 (fillTable s (w .sheet) x y cols rows) refl refl
-
     pub paint-step : StepHolds (paint x y cols rows) b w
+    unfolding fillTable
     paint-step =
-        quiet-step (paint x y cols rows) no-34 no-35 (λ a c q. elim [ ])
+        quiet-step (paint x y cols rows) refl refl (λ a c q. elim [ ])
         (fill-inv 1 _ (λ i j. painted (inRectangle x y cols rows i j) (b .copper i j)))
 
     pub erase-step : StepHolds (erase x y cols rows) b w
+    unfolding fillTable
     erase-step =
-        quiet-step (erase x y cols rows) no-34 no-35 (λ a c q. elim [ ])
+        quiet-step (erase x y cols rows) refl refl (λ a c q. elim [ ])
         (fill-inv 0 _ (λ i j. erased (inRectangle x y cols rows i j) (b .copper i j)))
 
   -- ---- expand and shrink
@@ -175,22 +170,16 @@ module _ {b : Board} {w : World} (inv : Inv b w) where
     resize-inv sheet copper new e =
         stale-inv (resize-granted s (w .sheet) (w .map) scratch q refl e .open-sheet) sheet (unmapped (w .map)) copper new
 
-    never-34 : eqb (firstOf (resizeTable s (w .sheet) (w .map) scratch q)) 34 ≡ false
-    unfolding resizeTable
-    never-34 = never 34 (resizeTable s (w .sheet) (w .map) scratch q) refl refl
-
-    never-35 : eqb (firstOf (resizeTable s (w .sheet) (w .map) scratch q)) 35 ≡ false
-    unfolding resizeTable
-    never-35 = never 35 (resizeTable s (w .sheet) (w .map) scratch q) refl refl
-
     pub expand-step : StepHolds (expand q scratch) b w
+    unfolding resizeTable
     expand-step =
-        quiet-step (expand q scratch) never-34 never-35 (λ a c r. elim [ ])
+        quiet-step (expand q scratch) refl refl (λ a c r. elim [ ])
         (resize-inv _ _ (λ i j k l. rw (← inv .agree .width, ← inv .agree .height) (expanded-copper (s .width) (s .height) i j k l q (w .sheet) (b .copper) same)))
 
     pub shrink-step : StepHolds (shrink q scratch) b w
+    unfolding resizeTable
     shrink-step =
-        quiet-step (shrink q scratch) never-34 never-35 (λ a c r. elim [ ])
+        quiet-step (shrink q scratch) refl refl (λ a c r. elim [ ])
         (resize-inv _ _ (λ i j k l. rw (← inv .agree .width, ← inv .agree .height) (shrunk-copper (s .width) (s .height) i j k l q (w .sheet) (b .copper) same)))
 
   -- ---- calls that change nothing here
@@ -198,15 +187,15 @@ module _ {b : Board} {w : World} (inv : Inv b w) where
   pub skeleton-step : (out : List ℕ) → StepHolds (skeleton out) b w
   unfolding readTable
   skeleton-step out =
-      quiet-step (skeleton out) (never 34 (tableOf (skeleton out) w) refl refl) (never 35 (tableOf (skeleton out) w) refl refl) (λ a c q. elim [ ]) (λ e. inv)
+      quiet-step (skeleton out) refl refl (λ a c q. elim [ ]) (λ e. inv)
 
   pub rebuild-step : (marks out : List ℕ) → StepHolds (rebuild marks out) b w
   unfolding readTable
   rebuild-step marks out =
-      quiet-step (rebuild marks out) (never 34 (tableOf (rebuild marks out) w) refl refl) (never 35 (tableOf (rebuild marks out) w) refl refl) (λ a c q. elim [ ]) (λ e. inv)
+      quiet-step (rebuild marks out) refl refl (λ a c q. elim [ ]) (λ e. inv)
 
   pub aside-step : StepHolds aside b w
-  aside-step = quiet-step aside (never 34 (tableOf aside w) refl refl) (never 35 (tableOf aside w) refl refl) (λ a c q. elim [ ]) (λ e. inv)
+  aside-step = quiet-step aside refl refl (λ a c q. elim [ ]) (λ e. inv)
 
   -- ---- build
 
@@ -223,7 +212,7 @@ module _ {b : Board} {w : World} (inv : Inv b w) where
     build-step = record {
       claim = record {
         safe = λ p x y q. elim [ ];
-        fair = λ p. absurd (eqb-false _ 34 (never 34 (tableOf (build e scratch) w) refl refl) p);
+        fair = λ p. absurd (never 34 (tableOf (build e scratch) w) refl refl p);
       };
       next = after-inv (build e scratch)
           (λ p. built-inv (build-done s (w .sheet) (w .map) scratch e p .0))
@@ -252,13 +241,13 @@ module _ {b : Board} {w : World} (inv : Inv b w) where
 
   pub lift-step : StepHolds lift b w
   lift-step =
-      quiet-step lift (never 34 (tableOf lift w) refl refl) (never 35 (tableOf lift w) refl refl) (λ a c q. elim [ ])
+      quiet-step lift refl refl (λ a c q. elim [ ])
       (λ e. rw (inv .fine) (cutter-inv false 0 0 0 up refl (up-sound s (inv .fine)) (λ l. absurd (true≢false (sym l)))))
 
   pub place-step : (x y q : ℕ) → StepHolds (place x y q) b w
   unfolding placeTable placeRows
   place-step x y q =
-      step-holds (place x y q) (never 35 (tableOf (place x y q) w) refl refl)
+      step-holds (place x y q) refl
       (λ e.
       let r = place-done s (w .map) x y q e in
       let g = r .0 in
@@ -333,7 +322,7 @@ module _ {b : Board} {w : World} (inv : Inv b w) where
     pub run-step : StepHolds (run d n) b w
     unfolding runTable runRows
     run-step =
-        step-holds (run d n) (never 35 (tableOf (run d n) w) refl refl)
+        step-holds (run d n) refl
         (λ e.
         let r = run-done s (w .map) d n e in
         let g = r .0 in (

@@ -112,7 +112,8 @@ fn raise_row(
     requires { ⌜ (n ≤ length (now cost)) × ((count ≤ length (now site)) × (count ≤ length (now start))) ⌝ }
     requires { ⌜ Entries (now cost) n (now site) count ⌝ }
     requires { ⌜ Costs (now cost) n ⌝ }
-    ensures { λ _. ⌜ RowRaised t h 0 n (λ x. hitBy (now (cost .entry)) t x (holder (now (site .entry)) (now (start .entry)) count x)) (now (reach .entry)) (now (reach .exit)) ⌝ }
+    ensures { λ _. ⌜ RowRaised t h 0 n (λ x. hitBy (now (cost .entry)) t x (holder (now (site .entry)) (now (start .entry)) count x))
+        (now (reach .entry)) (now (reach .exit)) ⌝ }
 {
     let mut c = count;
     let mut to = n;
@@ -140,7 +141,8 @@ fn covered_or(hit: bool, v: u8) -> u8
 // Writes 1 at the covered pixels of the t-th row, which starts at `base`.
 fn mark_row(out: &mut [u8], base: usize, n: usize, t: usize, reach: &[u16])
     requires { ⌜ (base + n ≤ length (now out)) × (n ≤ length (now reach)) ⌝ }
-    ensures { λ _. ⌜ RowWritten base n (λ x. cond (ltb t (getD (now (reach .entry)) x 0)) 1 (getD (now (out .entry)) (base + x) 0)) (now (out .entry)) (now (out .exit)) ⌝ }
+    ensures { λ _. ⌜ RowWritten base n (λ x. cond (ltb t (getD (now (reach .entry)) x 0)) 1 (getD (now (out .entry)) (base + x) 0))
+        (now (out .entry)) (now (out .exit)) ⌝ }
 {
     for x in 0..n {
         out[base + x] = covered_or(t < envelope::element(reach, x), out[base + x]);
@@ -175,8 +177,12 @@ fn pass_row(
     requires { ⌜ (w ≤ 2048) × ((h ≤ 2048) × (t < h)) ⌝ }
     requires { ⌜ (length (now map) ≡ 2 * (h * w)) × ((length (now marks) ≡ h * w) × (length (now out) ≡ h * w)) ⌝ }
     requires { ⌜ (w ≤ length (now reach)) × ((w ≤ length (now cost)) × ((w ≤ length (now site)) × (w ≤ length (now start)))) ⌝ }
-    ensures raised { λ _. ⌜ RowRaised t h 0 w (λ x k. rowCovers (now (map .entry)) w h (now (marks .entry)) x (passRow up h k) (passRow up h t)) (now (reach .entry)) (now (reach .exit)) ⌝ }
-    ensures marked { λ _. ⌜ RowWritten (passRow up h t * w) w (λ x. cond (ltb t (getD (now (reach .exit)) x 0)) 1 (getD (now (out .entry)) (passRow up h t * w + x) 0)) (now (out .entry)) (now (out .exit)) ⌝ }
+    ensures raised { λ _. ⌜ RowRaised t h 0 w
+        (λ x k. rowCovers (now (map .entry)) w h (now (marks .entry)) x (passRow up h k) (passRow up h t))
+        (now (reach .entry)) (now (reach .exit)) ⌝ }
+    ensures marked { λ _. ⌜ RowWritten (passRow up h t * w) w
+        (λ x. cond (ltb t (getD (now (reach .exit)) x 0)) 1 (getD (now (out .entry)) (passRow up h t * w + x) 0))
+        (now (out .entry)) (now (out .exit)) ⌝ }
 {
     let base = row_of(t, h, up) * w;
     price_row(map, marks, base, w, cost);

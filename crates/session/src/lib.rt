@@ -2,6 +2,7 @@
 // bad input gets its number, and a refusal changes nothing.
 ghost use mathlib.Core.Path.{_≡_};
 ghost use mathlib.Core.Bool.{cond, _&&_};
+ghost use Prim.Native.Nat.{_<_, _≤_};
 ghost use lib.Dec.{eqb};
 ghost use Rattle.raster.specs.Map.{unmapped};
 ghost use Rattle.raster.specs.Refusal.{firstOf};
@@ -9,6 +10,7 @@ ghost use Rattle.raster.specs.Sheet.{bare};
 ghost use Rattle.morphology.specs.Resize.{expanded, shrunk};
 ghost use Rattle.rebuild.specs.Rebuild.{rebuilt};
 ghost use Rattle.skeleton.specs.Skeleton.{skeletonOf};
+ghost use Rattle.cutter.specs.Directions.{columnAfter, rowAfter};
 ghost use Rattle.session.specs.State.{fresh, openedAs, stale, downAt};
 ghost use Rattle.session.specs.Maps.{engineMap, overflows};
 ghost use Rattle.session.specs.Refusals.{
@@ -119,6 +121,15 @@ fn write_map(s: Session, sheet: &[u8], map: &mut [i16], scratch: &mut [i16], eng
         return true;
     }
     false
+}
+
+// The session with its cutter where the run ends.
+fn run_to(s: Session, d: u16, count: u16) -> Session
+    requires { ⌜ (d ≤ 7) × ((columnAfter d count (s .x) < s .width) × (rowAfter d count (s .y) < s .height)) ⌝ }
+    ensures { λ r. ⌜ r ≡ runSession s d count ⌝ }
+{
+    let c = cutter::cutter_after(state::own_cutter(s), d, count);
+    state::down_at(s, c.x, c.y, c.q)
 }
 
 impl Session {
@@ -235,7 +246,7 @@ impl Session {
         }
         Reply {
             answer,
-            session: state::run_to(self, direction, count),
+            session: run_to(self, direction, count),
         }
     }
 

@@ -1,7 +1,5 @@
 // Which sessions a call could hand back, and how a session changes. Each function is the definition of its name in specs/State.
 ghost use mathlib.Core.Path.{_≡_};
-ghost use Prim.Native.Nat.{_<_, _≤_};
-ghost use Rattle.cutter.specs.Directions.{columnAfter, rowAfter};
 ghost use Rattle.session.specs.State.{
   side,
   cutterSound,
@@ -19,7 +17,6 @@ ghost use Rattle.session.specs.State.{
   cutterOf,
   ownCutter,
 };
-ghost use Rattle.session.specs.Calls.{runSession};
 use crate::Session;
 use cutter::Cutter;
 
@@ -147,13 +144,4 @@ pub fn own_cutter(s: Session) -> Cutter
     ensures { λ r. ⌜ r ≡ ownCutter s ⌝ }
 {
     cutter_of(s, s.x, s.y, s.q)
-}
-
-// The session with its cutter where the run ends.
-pub fn run_to(s: Session, d: u16, count: u16) -> Session
-    requires { ⌜ (d ≤ 7) × ((columnAfter d count (s .x) < s .width) × (rowAfter d count (s .y) < s .height)) ⌝ }
-    ensures { λ r. ⌜ r ≡ runSession s d count ⌝ }
-{
-    let c = cutter::cutter_after(own_cutter(s), d, count);
-    down_at(s, c.x, c.y, c.q)
 }

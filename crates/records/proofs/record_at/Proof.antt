@@ -5,7 +5,6 @@ use Prim.Native.Nat.{ℕ, _+_, _≤_}
 use native.Mathlib.Nat.{le-antisymm}
 use native.Mathlib.Omega.{arith}
 use lib.ListN.{length, drop, length-drop}
-use borrow.Author.Needs.{needs}
 use Rattle.records.specs.Format.{word, lengthOf, recordHere}
 use Rattle.records.specs.FormatLaws.{room, beyond}
 use Rattle.records.proofs.record_at.Statement.{statement}

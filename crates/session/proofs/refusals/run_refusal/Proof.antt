@@ -1,7 +1,7 @@
 -- `session::refusals::run_refusal` meets its contract: each return rewrites by the tests that led there.
 -- Assumes nothing.
 use mathlib.Core.Path.{_≡_}
-use mathlib.Core.Bool.{false, not, _&&_, _||_}
+use mathlib.Core.Bool.{false, not, _&&_}
 use Prim.Native.Nat.{_≤_}
 use lib.Dec.{leb, ltb}
 use borrow.Author.Needs.{needs}
