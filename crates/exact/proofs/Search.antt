@@ -22,7 +22,7 @@ pub data Answer (copper : Mask) (w h x y : ℕ) : SearchState → Type 0 where
 
 module _ (copper : Mask) (h x y : ℕ) where
   -- the copper pixels before the n-th of the run, in which (a, b) is at a × h + b
-  record VisitedAll (n a b : ℕ) : Type 0 where
+  record SeenCopper (n a b : ℕ) : Type 0 where
     is-copper : copper a b ≡ true
     on : b < h
     before : index h b a < n
@@ -33,10 +33,10 @@ module _ (copper : Mask) (h x y : ℕ) where
 
   -- of those, (i, j) is the one to keep
   record First (n i j : ℕ) : Type 0 where
-    seen : VisitedAll n i j
-    wins : (a b : ℕ) → VisitedAll n a b → Behind i j a b
+    seen : SeenCopper n i j
+    wins : (a b : ℕ) → SeenCopper n a b → Behind i j a b
 
-  no-nearer : {n i j : ℕ} → First n i j → (a b : ℕ) → VisitedAll n a b → apart x y i j ≤ apart x y a b
+  no-nearer : {n i j : ℕ} → First n i j → (a b : ℕ) → SeenCopper n a b → apart x y i j ≤ apart x y a b
   no-nearer {n} {i} {j} k a b s = go (k .wins a b s)
     where
       go : Behind i j a b → apart x y i j ≤ apart x y a b
@@ -45,7 +45,7 @@ module _ (copper : Mask) (h x y : ℕ) where
 
   -- what was found, of those
   data Best (n : ℕ) : SearchState → Type 0 where
-    empty : ((a b : ℕ) → VisitedAll n a b → ⊥) → Best n unfound
+    empty : ((a b : ℕ) → SeenCopper n a b → ⊥) → Best n unfound
     best : (i j : ℕ) → First n i j → Best n (foundAt i j)
 
   module _ (i j : ℕ) (on : j < h) where
@@ -53,24 +53,24 @@ module _ (copper : Mask) (h x y : ℕ) where
     n = index h j i
 
     -- one seen up to (i, j) is one seen before it, or is it
-    next : {a b : ℕ} → VisitedAll (n + 1) a b → VisitedAll n a b ⊎ ((a ≡ i) × (b ≡ j))
+    next : {a b : ℕ} → SeenCopper (n + 1) a b → SeenCopper n a b ⊎ ((a ≡ i) × (b ≡ j))
     next {a} {b} s = elim (decLt (index h b a) n) [
       | yes l ↦ inl (record { is-copper = s .is-copper; on = s .on; before = l })
       | no l ↦ let e = index-one h b a j i (s .on) on (omega (arith, s .before)) in inr (e .1, e .0)
     ]
 
     -- (i, j) is taken, or what was found before stays
-    taken : copper i j ≡ true → ((a b : ℕ) → VisitedAll n a b → apart x y i j < apart x y a b) → First (n + 1) i j
+    taken : copper i j ≡ true → ((a b : ℕ) → SeenCopper n a b → apart x y i j < apart x y a b) → First (n + 1) i j
     taken e beats = record { seen = record { is-copper = e; on = on; before = omega arith }; wins = λ a b s. go (next s) }
       where
-        go : {a b : ℕ} → VisitedAll n a b ⊎ ((a ≡ i) × (b ≡ j)) → Behind i j a b
+        go : {a b : ℕ} → SeenCopper n a b ⊎ ((a ≡ i) × (b ≡ j)) → Behind i j a b
         go {a} {b} (inl s) = inl (beats a b s)
         go (inr (p, q)) = inr (rw (p, q) (refl, omega arith))
 
     search-stays : {p q : ℕ} → First n p q → (copper i j ≡ true → apart x y p q ≤ apart x y i j) → First (n + 1) p q
     search-stays {p} {q} k l = record { seen = record { is-copper = k .seen .is-copper; on = k .seen .on; before = omega (arith, k .seen .before) }; wins = λ a b s. go (s .is-copper) (next s) }
       where
-        go : {a b : ℕ} → copper a b ≡ true → VisitedAll n a b ⊎ ((a ≡ i) × (b ≡ j)) → Behind p q a b
+        go : {a b : ℕ} → copper a b ≡ true → SeenCopper n a b ⊎ ((a ≡ i) × (b ≡ j)) → Behind p q a b
         go {a} {b} c (inl s) = k .wins a b s
         go c (inr (u, v)) = rw (u, v) (elim (decLt (apart x y p q) (apart x y i j)) [
           | yes m ↦ inl m
@@ -83,7 +83,7 @@ module _ (copper : Mask) (h x y : ℕ) where
         go : (t : Bool) → copper i j ≡ t → {f : SearchState} → Best n f → Best (n + 1) (cond (t && nearer x y i j f) (foundAt i j) f)
         go false e (empty none-seen) = empty (λ a b s. bare (s .is-copper) (next s))
           where
-            bare : {a b : ℕ} → copper a b ≡ true → VisitedAll n a b ⊎ ((a ≡ i) × (b ≡ j)) → ⊥
+            bare : {a b : ℕ} → copper a b ≡ true → SeenCopper n a b ⊎ ((a ≡ i) × (b ≡ j)) → ⊥
             bare {a} {b} c (inl s) = none-seen a b s
             bare c (inr (p, q)) = true≢false (sym c ∙ ap₂ copper p q ∙ e)
         go false e (best p q k) = best p q (search-stays k (λ c. absurd (true≢false (sym c ∙ e))))
@@ -109,10 +109,10 @@ pub found : (copper : Mask) (w h x y : ℕ) → Answer copper w h x y (nearest c
 unfolding nearest
 found copper w h x y = go (columns copper h x y w)
   where
-    seen : (a b : ℕ) → Copper copper w h a b → VisitedAll copper h x y (index h 0 w) a b
+    seen : (a b : ℕ) → Copper copper w h a b → SeenCopper copper h x y (index h 0 w) a b
     seen a b c = record { is-copper = c .is-copper; on = c .down; before = omega (arith, index-inside h b a (c .down) w (c .across)) }
 
-    on-sheet : (a b : ℕ) → VisitedAll copper h x y (index h 0 w) a b → Copper copper w h a b
+    on-sheet : (a b : ℕ) → SeenCopper copper h x y (index h 0 w) a b → Copper copper w h a b
     on-sheet a b s = record {
       across = elim (decLt a w) [ yes l ↦ l | no l ↦ let k : w ≤ a = omega arith in absurd (omega (arith, s .before, mul-le-mul-right h k)) ];
       down = s .on;

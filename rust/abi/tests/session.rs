@@ -2,6 +2,7 @@
 //! over lists, or both.
 
 use model::boards::{self, Board};
+use model::calls::Calls;
 use model::nearest;
 use model::random::Random;
 use model::session::Fields;
@@ -163,30 +164,27 @@ fn random_lists() {
     assert!(found[&0].len() == 11 && found[&0].values().all(|&calls| calls > 2_000), "{:?}", found[&0]);
 }
 
-/// The claims hold of the model's lists too.
-#[test]
-fn claims_of_the_model() {
+/// Holds so many lists of a session against the claims, without a look at the model. Each of place and run is done, and refused by the gate, more than
+/// `least` times.
+fn hold_to_claims<S: Calls>(seed: u64, count: usize, least: u64) {
     let mut found = Answers::new();
-    let mut seeds = Random::new(116);
-    for _ in 0..5_000 {
-        lists::untouched::<Fields>(Check::Board, seeds.next(), &mut found);
+    let mut seeds = Random::new(seed);
+    for _ in 0..count {
+        lists::untouched::<S>(Check::Board, seeds.next(), &mut found);
     }
     for (answer, name) in [(0, "place"), (0, "run"), (34, "place"), (34, "run")] {
-        assert!(found[&answer][name] > 800, "{answer}: {:?}", found[&answer]);
+        assert!(found[&answer][name] > least, "{answer}: {:?}", found[&answer]);
     }
 }
 
-/// The claims over lists without a look at the model.
 #[test]
 fn claims() {
-    let mut found = Answers::new();
-    let mut seeds = Random::new(111);
-    for _ in 0..30_000 {
-        lists::untouched::<Library>(Check::Board, seeds.next(), &mut found);
-    }
-    for (answer, name) in [(0, "place"), (0, "run"), (34, "place"), (34, "run")] {
-        assert!(found[&answer][name] > 5_000, "{answer}: {:?}", found[&answer]);
-    }
+    hold_to_claims::<Library>(111, 30_000, 5_000);
+}
+
+#[test]
+fn claims_of_the_model() {
+    hold_to_claims::<Fields>(116, 5_000, 800);
 }
 
 /// At every pixel of the arrow heads the largest q that passes and the next, by all engines, and runs between.
