@@ -208,7 +208,7 @@ room job at j h is e =
     let same : word (drop at job) 2 ≡ j = sym is ∙ e in
     omega (arith, length-drop at job, h .header, rw same at (h .size))
 
--- one number further up
+-- a number that is at least m and not m is above m
 pub beyond : (m : ℕ) {k : ℕ} → m ≤ k → (k ≡ m → ⊥) → m + 1 ≤ k
 beyond m {k} l n = elim (decLe (m + 1) k) [
   | yes h ↦ h
