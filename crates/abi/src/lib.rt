@@ -9,7 +9,8 @@ ghost use Rattle.raster.specs.Sheet.{bare};
 ghost use Rattle.morphology.specs.Resize.{expanded, shrunk};
 ghost use Rattle.rebuild.specs.Rebuild.{rebuilt};
 ghost use Rattle.skeleton.specs.Skeleton.{skeletonOf};
-ghost use Rattle.session.specs.State.{fresh, openedAs, stale, downAt};
+ghost use Rattle.session.specs.State.{fresh, openedAs, stale, builtBy, downAt};
+ghost use Rattle.session.specs.Maps.{engineMap};
 ghost use Rattle.session.specs.Refusals.{
   openTable,
   fillTable,
@@ -23,8 +24,6 @@ ghost use Rattle.session.specs.Refusals.{
 ghost use Rattle.session.specs.Calls.{
   onDone,
   filledBy,
-  buildSession,
-  buildMap,
   scratchBy,
   runSession,
   liftSession,
@@ -91,8 +90,8 @@ pub extern "C" fn abi_session_build(
     engine: u16,
 ) -> Reply
     ensures answered { λ r. ⌜ r .answer ≡ firstOf (buildTable s (now (sheet .entry)) (now (map .entry)) (now (scratch .entry)) engine) ⌝ }
-    ensures handed_back { λ r. ⌜ r .session ≡ buildSession s engine (r .answer) ⌝ }
-    ensures map_left { λ r. ⌜ now (map .exit) ≡ buildMap s (now (sheet .entry)) (now (map .entry)) engine (r .answer) ⌝ }
+    ensures handed_back { λ r. ⌜ r .session ≡ onDone (r .answer) (builtBy engine s) s ⌝ }
+    ensures map_left { λ r. ⌜ now (map .exit) ≡ onDone (r .answer) (engineMap s (now (sheet .entry)) engine) (now (map .entry)) ⌝ }
     ensures scratch_left { λ r. ⌜ now (scratch .exit)
         ≡ cond (eqb (r .answer) 0 && eqb engine 1) (scratchBy s (now (scratch .entry))) (now (scratch .entry)) ⌝ }
 {

@@ -105,7 +105,8 @@ fn show_sheet(sheet: &[u8], w: usize, h: usize)
 
 // One sheet, by one scan.
 fn show_scan(sheet: &[u8], map: &mut [i16], w: usize, h: usize, corners: bool)
-    requires { ⌜ (0 < w) × ((length (now sheet) ≡ h * w) × (length (now map) ≡ 2 * (h * w))) ⌝ }
+    requires { ⌜ (0 < w) × ((w ≤ 2048) × (h ≤ 2048)) ⌝ }
+    requires { ⌜ (length (now sheet) ≡ h * w) × (length (now map) ≡ 2 * (h * w)) ⌝ }
 {
     if corners {
         text(b"8SED\n");

@@ -1,19 +1,29 @@
--- A vector that the code carries: its components fit the machine's numbers, and a step that is taken back.
+-- A vector that the code carries: its components fit the machine's numbers, and so do those of its candidate.
 -- Assumes nothing.
-use mathlib.Core.Path.{_≡_, ap, subst, _∙_}
-use lib.IntN.{ℤ, negℤ, _+ℤ_, _-ℤ_, +ℤ-idr, +ℤ-assoc, +ℤ-invl, +ℤ-invr}
+use Prim.Native.Nat.{_≤_, _<_}
+use native.Mathlib.Nat.{mul-le-mul}
+use native.Mathlib.Omega.{arith}
+use lib.IntN.{ℤ, pos, negsuc, natAbs, _+ℤ_}
 use mir.Syntax.{w32}
 use mir.Val.{SFits}
-use Rattle.raster.proofs.Signed.{widen, sum-wide, wide-fits}
-use Rattle.raster.specs.Vector.{UnitStep}
+use Rattle.raster.proofs.Signed.{widen, short-wide, wide-fits}
+use Rattle.raster.specs.Limits.{maxSide}
+use Rattle.raster.specs.Vector.{Short, UnitStep, size}
+use Rattle.raster.specs.VectorLaws.{add-abs}
 use Rattle.candidate.specs.declared.SizedVector.{SizedVector}
-use Rattle.candidate.specs.Holding.{Sized, Stepped}
+use Rattle.candidate.specs.Holding.{Sized, noSize, Given}
 
-pub back-forth : (z o : ℤ) → (z -ℤ o) +ℤ o ≡ z
-back-forth z o = +ℤ-assoc z (negℤ o) o ∙ ap (λ (k : ℤ). z +ℤ k) (+ℤ-invl o) ∙ +ℤ-idr z
+pub near-short : (z : ℤ) → natAbs z ≤ maxSide → Short z
+near-short (pos n) h = omega arith
+near-short (negsuc n) h = omega arith
 
-pub forth-back : (z o : ℤ) → (z +ℤ o) -ℤ o ≡ z
-forth-back z o = +ℤ-assoc z o (negℤ o) ∙ ap (λ (k : ℤ). z +ℤ k) (+ℤ-invr o) ∙ +ℤ-idr z
+near-fits : (z : ℤ) → natAbs z ≤ maxSide → SFits w32 z
+near-fits z h = wide-fits z (omega arith)
+
+-- the size of a vector that is near is one that there are
+pub near-size : (x y : ℤ) → natAbs x ≤ maxSide → natAbs y ≤ maxSide → size x y < noSize
+unfolding size
+near-size x y a b = omega (arith, mul-le-mul a a, mul-le-mul b b)
 
 module _ {r : SizedVector} (h : Sized r) where
   pub fits-dx : SFits w32 (r .dx)
@@ -22,12 +32,24 @@ module _ {r : SizedVector} (h : Sized r) where
   pub fits-dy : SFits w32 (r .dy)
   fits-dy = widen (record { sfits = h .short-dy })
 
-module _ {o : ℤ} {c : SizedVector} (h : Stepped o c) where
-  pub fits-dx-ahead : SFits w32 (c .dx)
-  fits-dx-ahead = widen (record { sfits = h .short-dx })
+  -- no pixel's numbers have a larger size than an unlabelled one's
+  pub most-size : r .size ≤ noSize
+  unfolding size
+  most-size =
+      let x = short-wide (r .dx) (h .short-dx) in
+      let y = short-wide (r .dy) (h .short-dy) in
+      omega (arith, h .own, mul-le-mul x x, mul-le-mul y y)
 
-  pub fits-dy-back : SFits w32 (c .dy -ℤ o)
-  fits-dy-back = widen (record { sfits = h .short-dy })
+module _ {c : SizedVector} (g : Given c) where
+  pub given-dx : SFits w32 (c .dx)
+  given-dx = near-fits (c .dx) (omega (arith, g .near-dx))
 
-  pub fits-dy-ahead : UnitStep o → SFits w32 (c .dy)
-  fits-dy-ahead s = subst (SFits w32) (back-forth (c .dy) o) (wide-fits _ (sum-wide (c .dy -ℤ o) o (h .short-dy) s))
+  pub given-dy : SFits w32 (c .dy)
+  given-dy = near-fits (c .dy) (g .near-dy)
+
+  -- after a step to the side
+  pub side-near : (o : ℤ) → UnitStep o → natAbs (c .dx +ℤ o) ≤ maxSide
+  side-near o u = omega (arith, g .near-dx, add-abs (c .dx) o)
+
+  pub side-fits : (o : ℤ) → UnitStep o → SFits w32 (c .dx +ℤ o)
+  side-fits o u = near-fits _ (side-near o u)

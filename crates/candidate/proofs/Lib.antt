@@ -1,4 +1,6 @@
--- `Neighbours` is what scan cites of a candidate. Below: what the proofs of several functions share.
+-- `Neighbours`, `OnCopper` and `Held` are what scan cites of a candidate. Below: what the proofs of several functions share.
 pub mod Neighbours
-mod Offer
+pub mod OnCopper
+pub mod Held
 mod Carried
+mod Offer

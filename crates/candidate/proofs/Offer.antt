@@ -1,92 +1,48 @@
 -- One candidate, as the code takes it. First on vectors (`Offered`); then on the map, where candidates that come in turn at one pixel are one write
 -- (`Written`).
 -- Assumes nothing.
-use mathlib.Core.Path.{_≡_, refl, sym, ap, ap₂, _∙_}
-use mathlib.Core.Bool.{Bool, true, false, not, cond, _&&_, _||_, and-true, and-false, false≢true}
+use mathlib.Core.Path.{_≡_, refl, sym, ap, _∙_}
+use mathlib.Core.Bool.{Bool, true, false, cond, _&&_}
 use mathlib.Core.List.{List}
-use Prim.Native.Nat.{ℕ, zero, suc, _+_, _*_}
+use Prim.Native.Nat.{ℕ, _+_, _*_, _≤_}
 use native.Mathlib.Omega.{arith}
 use lib.Dec.{ltb}
-use lib.IntN.{ℤ, pos, negsuc, _+ℤ_}
+use lib.IntN.{ℤ, _+ℤ_}
 use lib.ListN.{set}
 use lib.Seq.{set-getD, set-set, set-comm}
-use borrow.Author.Tests.{eqb-true}
-use Rattle.raster.specs.Tests.{and-left, and-right, cond-ind}
-use Rattle.raster.specs.Vector.{Short, UnitStep, mark, isMark, size, unlabelled, inRange, replaces}
-use Rattle.raster.specs.VectorLaws.{range-abs, in-range-replaces}
+use borrow.Author.Tests.{le-ltb}
+use Rattle.raster.specs.Tests.{and-left}
+use Rattle.raster.specs.Vector.{UnitStep, size, replaces}
+use Rattle.raster.specs.VectorLaws.{near-replaces}
 use Rattle.raster.specs.Map.{Inside, dxAt, dyAt, put}
 use Rattle.raster.specs.MapLaws.{put-dx, put-dy}
 use Rattle.candidate.specs.declared.SizedVector.{SizedVector}
-use Rattle.candidate.specs.Candidate.{allowed, gives, overs, offer, State, state, offerFlagged}
-use Rattle.candidate.specs.Holding.{Sized, AtPixel, Offered, wins}
+use Rattle.candidate.specs.Candidate.{offer}
+use Rattle.candidate.specs.Holding.{Sized, AtPixel, noSize, isGiven, Given, offerGiven, wins, Offered}
+use Rattle.candidate.proofs.Carried.{near-short, most-size, side-near}
 
--- what is one step from the mark is out of the range, so the candidate of an unlabelled neighbour is
-far : (z o : ℤ) → isMark z ≡ true → UnitStep o → inRange (z +ℤ o) ≡ false
-far (pos n) o e s = absurd (false≢true e)
-far (negsuc n) o e s = rw (eqb-true n 32767 e) (steps o s)
-  where
-    steps : (o : ℤ) → UnitStep o → inRange (mark +ℤ o) ≡ false
-    steps (pos zero) s = refl
-    steps (pos (suc zero)) s = refl
-    steps (pos (suc (suc n))) s = absurd (omega arith)
-    steps (negsuc zero) s = refl
-    steps (negsuc (suc n)) s = absurd (omega arith)
+-- ---- of vectors: s is the candidate's size, or too large if there is none
 
-gives-allowed : (nx ny ox oy : ℤ) → UnitStep ox → gives nx ny ox oy ≡ allowed nx ny ox oy
-gives-allowed nx ny ox oy s = go (unlabelled nx ny) refl
-  where
-    go : (u : Bool) → unlabelled nx ny ≡ u → not u && allowed nx ny ox oy ≡ allowed nx ny ox oy
-    go true e = rw (far nx ox (and-left (isMark nx) _ e) s)
-    go false e = refl
+module _ (d c : SizedVector) (o : ℤ) (a : Sized d) (g : Given c) (u : UnitStep o) (s : ℕ) (is : isGiven c ≡ true → s ≡ size (c .dx +ℤ o) (c .dy)) (none : isGiven c ≡ false → noSize ≤ s) where
+  -- so sizes alone say what replaces what
+  wins-is : wins d c o ≡ ltb s (d .size)
+  wins-is = go (isGiven c) refl
+    where
+      go : (t : Bool) → isGiven c ≡ t → t && replaces (d .dx) (d .dy) (c .dx +ℤ o) (c .dy) ≡ ltb s (d .size)
+      go true e = rw (is e, a .own) (sym (near-replaces (d .dx) (d .dy) (c .dx +ℤ o) (c .dy) (side-near g o u) (g .near-dy)))
+      go false e = sym (le-ltb s (d .size) (omega (arith, none e, most-size a)))
 
--- ---- of vectors
-
--- a component in the range fits the map, as does one that stands there
-short : (z d : ℤ) (t : Bool) → (t ≡ true → inRange z ≡ true) → Short d → Short (cond t z d)
-short z d t f h = cond-ind Short t (λ e. near z (f e)) (λ _. h)
-  where
-    near : (z : ℤ) → inRange z ≡ true → Short z
-    near (pos n) e = let h = range-abs (pos n) e in omega arith
-    near (negsuc n) e = let h = range-abs (negsuc n) e in omega arith
-
-module _ (d : SizedVector) (nx ny ox oy : ℤ) (a : Sized d) where
-  -- a candidate out of the range: the vector stays, and the flag says whether the neighbour is labelled
-  pub offered-out : {r : SizedVector} → allowed nx ny ox oy ≡ false → r .dx ≡ d .dx → r .dy ≡ d .dy → r .size ≡ d .size
-      → r .over ≡ not (unlabelled nx ny) || d .over → Offered d nx ny ox oy r
-  unfolding overs
-  offered-out {r} e f g h i = record {
-    dx = rw (e, and-false) f;
-    dy = rw (e, and-false) g;
-    over = rw (e, and-true) i;
-    sized = record { short-dx = rw f (a .short-dx); short-dy = rw g (a .short-dy); own = rw (f, g, h) (a .own) };
-  }
-
-  -- one in the range: the smaller of the two, and the flag stays
-  module _ (s : UnitStep ox) (e : allowed nx ny ox oy ≡ true) where
-    wins-is : wins d nx ny ox oy ≡ ltb (size (nx +ℤ ox) (ny +ℤ oy)) (d .size)
-    wins-is =
-        let c : Bool = replaces (d .dx) (d .dy) (nx +ℤ ox) (ny +ℤ oy) in
-        ap (λ (b : Bool). b && c) (gives-allowed nx ny ox oy s)
-        ∙ sym (in-range-replaces (d .dx) (d .dy) (nx +ℤ ox) (ny +ℤ oy)) ∙ (rw (e, a .own))
-
-    pub offered-in : {r : SizedVector} (t : Bool) → t ≡ ltb (size (nx +ℤ ox) (ny +ℤ oy)) (d .size)
-        → r .dx ≡ cond t (nx +ℤ ox) (d .dx) → r .dy ≡ cond t (ny +ℤ oy) (d .dy) → r .size ≡ cond t (size (nx +ℤ ox) (ny +ℤ oy)) (d .size)
-        → r .over ≡ d .over → Offered d nx ny ox oy r
-    unfolding overs
-    offered-in {r} t u f g h i = record {
-      dx = rw (wins-is, ← u) f;
-      dy = rw (wins-is, ← u) g;
-      over = rw (e, and-false) i;
-      sized = record {
-        short-dx = rw f (short (nx +ℤ ox) (d .dx) t (λ _. and-left (inRange (nx +ℤ ox)) _ e) (a .short-dx));
-        short-dy = rw g (short (ny +ℤ oy) (d .dy) t (λ _. and-right (inRange (nx +ℤ ox)) _ e) (a .short-dy));
-        own = rw (f, g, h) (go t);
-      };
-    }
-      where
-        go : (t : Bool) → cond t (size (nx +ℤ ox) (ny +ℤ oy)) (d .size) ≡ size (cond t (nx +ℤ ox) (d .dx)) (cond t (ny +ℤ oy) (d .dy))
-        go true = refl
-        go false = a .own
+  pub offered : {r : SizedVector} (t : Bool) → t ≡ ltb s (d .size)
+      → r .dx ≡ cond t (c .dx +ℤ o) (d .dx) → r .dy ≡ cond t (c .dy) (d .dy) → r .size ≡ cond t s (d .size) → Offered d c o r
+  offered {r} t e x y z = record { dx = rw (wins-is, ← e) x; dy = rw (wins-is, ← e) y; sized = go t (wins-is ∙ sym e) x y z }
+    where
+      go : (t : Bool) → wins d c o ≡ t → r .dx ≡ cond t (c .dx +ℤ o) (d .dx) → r .dy ≡ cond t (c .dy) (d .dy) → r .size ≡ cond t s (d .size) → Sized r
+      go true w x y z = record {
+        short-dx = rw x (near-short (c .dx +ℤ o) (side-near g o u));
+        short-dy = rw y (near-short (c .dy) (g .near-dy));
+        own = rw (x, y, z) (is (and-left (isGiven c) _ w));
+      }
+      go false w x y z = record { short-dx = rw x (a .short-dx); short-dy = rw y (a .short-dy); own = rw (x, y, z) (a .own) }
 
 -- ---- of the map
 
@@ -104,32 +60,29 @@ put-put p x y a b m =
     ap (λ (l : List ℤ). set l (2 * p + 1) y) (set-comm (set m (2 * p) a) (2 * p + 1) (2 * p) b x (omega arith))
     ∙ set-set (set (set m (2 * p) a) (2 * p) x) (2 * p + 1) b y ∙ ap (λ (l : List ℤ). set l (2 * p + 1) y) (set-set m (2 * p) a x)
 
--- r, written at its pixel, stands there
-pub held : {r : SizedVector} (at : ℕ) (m : List ℤ) → Inside at m → Sized r → AtPixel r (put at (r .dx) (r .dy) m) at
-held at m i s = record { dx = sym (put-dx at _ _ m i); dy = sym (put-dy at _ _ m i); sized = s }
-
 module _ (at : ℕ) (m : List ℤ) where
-  -- the state s is the map m with r at the pixel, and r's flag
-  pub record Written (r : SizedVector) (s : State) : Type 0 where
-    pub made : s .map ≡ put at (r .dx) (r .dy) m
-    pub flag : s .over ≡ r .over
+  -- n is the map m with r at the pixel
+  pub record Written (r : SizedVector) (n : List ℤ) : Type 0 where
+    pub made : n ≡ put at (r .dx) (r .dy) m
     pub sized : Sized r
 
-  pub written-first : {d : SizedVector} {b : Bool} → AtPixel d m at → d .over ≡ b → Written d (state m b)
-  written-first h e = record { made = put-kept at m (h .dx) (h .dy); flag = sym e; sized = h .sized }
+  pub written-first : {d : SizedVector} → AtPixel d m at → Written d m
+  written-first h = record { made = put-kept at m (h .dx) (h .dy); sized = h .sized }
 
-  pub written-next : {d r : SizedVector} {s : State} (nx ny ox oy : ℤ) → Inside at m → Written d s → Offered d nx ny ox oy r → Written r (offerFlagged at nx ny ox oy s)
+  pub written-next : {d c r : SizedVector} {n : List ℤ} (o : ℤ) → Inside at m → Written d n → Offered d c o r → Written r (offerGiven c o at n)
   unfolding offer
-  written-next {d} {r} {s} nx ny ox oy i v o = record {
-    made = rw (v .made, put-dx at (d .dx) (d .dy) m i, put-dy at (d .dx) (d .dy) m i, o .dx, o .dy) (go (wins d nx ny ox oy));
-    flag = rw (o .over, v .flag);
-    sized = o .sized;
+  written-next {d} {c} {r} {n} o i v e = record {
+    made = rw (v .made, put-dx at (d .dx) (d .dy) m i, put-dy at (d .dx) (d .dy) m i, e .dx, e .dy) (go (isGiven c) (replaces (d .dx) (d .dy) (c .dx +ℤ o) (c .dy)));
+    sized = e .sized;
   }
     where
-      go : (t : Bool) → cond t (put at (nx +ℤ ox) (ny +ℤ oy) (put at (d .dx) (d .dy) m)) (put at (d .dx) (d .dy) m)
-          ≡ put at (cond t (nx +ℤ ox) (d .dx)) (cond t (ny +ℤ oy) (d .dy)) m
-      go true = put-put at _ _ _ _ m
-      go false = refl
+      go : (t u : Bool) → cond t (cond u (put at (c .dx +ℤ o) (c .dy) (put at (d .dx) (d .dy) m)) (put at (d .dx) (d .dy) m)) (put at (d .dx) (d .dy) m)
+          ≡ put at (cond (t && u) (c .dx +ℤ o) (d .dx)) (cond (t && u) (c .dy) (d .dy)) m
+      go true true = put-put at _ _ _ _ m
+      go true false = refl
+      go false u = refl
 
-  pub written-last : {r : SizedVector} {s : State} {n : List ℤ} → Written r s → n ≡ put at (r .dx) (r .dy) m → state n (r .over) ≡ s
-  written-last v e = ap₂ state (e ∙ sym (v .made)) (sym (v .flag))
+  -- r, written at its pixel, is what the candidates leave, and stands there
+  pub written-last : {r : SizedVector} {n k : List ℤ} → Inside at m → Written r n → k ≡ put at (r .dx) (r .dy) m → (k ≡ n) × AtPixel r k at
+  written-last {r} i v e =
+      (e ∙ sym (v .made), rw e (record { dx = sym (put-dx at (r .dx) (r .dy) m i); dy = sym (put-dy at (r .dx) (r .dy) m i); sized = v .sized }))

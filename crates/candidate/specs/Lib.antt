@@ -1,3 +1,5 @@
--- `Candidate` is document 01's candidate. `Holding` is what the functions, and those of scan, promise each other about the vectors that they carry.
+-- `Candidate` is document 01's candidate. `OnSheet` is where vectors end, which the functions, and those of scan, require of a map. `Holding` is what they
+-- promise each other about the vectors that they carry.
 pub mod Candidate
+pub mod OnSheet
 pub mod Holding

@@ -1,28 +1,25 @@
-// What a pixel holds after the candidates of its neighbours (document 01, "Engines"): its vector, the size of that, and the flag of refusal 35.
+// What a pixel holds after the candidates of its neighbours (document 01, "Engines"): its vector, and the size of that.
 //
-// A candidate's size comes from its neighbour's: a step o adds 2vo + o² to the square of v, so that nothing is multiplied out twice. The three neighbours of
-// a pixel in the row before are looked at together, with one read and one write of the pixel.
+// A candidate's size comes from its neighbour's: a step o adds 2vo + o² to the square of v, so that nothing is multiplied out twice. All candidates that a
+// pixel is offered in a pass are looked at together, with one read and one write of the pixel.
 //
-// Each function that writes the map takes the flag and hands it back: whether a candidate with a component outside ±2,047 was met.
+// No number is tested for its range: the vector of a neighbour ends on the sheet, so its components are below 2,048 and one step more fits 16 bits.
 ghost use mathlib.Core.Path.{_≡_};
-ghost use mathlib.Core.Bool.{true, false, cond, _&&_};
-ghost use Prim.Native.Nat.{_+_, _*_, _≤_};
-ghost use lib.Dec.{ltb};
-ghost use lib.IntN.{pos, negsuc, natAbs, _+ℤ_, _-ℤ_};
-ghost use lib.ListN.{length};
-ghost use Rattle.raster.specs.Vector.{Short, UnitStep, size, unlabelled, inRange};
-ghost use Rattle.raster.specs.Map.{Inside};
-ghost use Rattle.candidate.specs.Candidate.{state, offerFlagged, relaxFlagged};
-ghost use Rattle.candidate.specs.Holding.{square, Sized, AtPixel, Stepped, Ahead, IfThere, Offered};
+ghost use mathlib.Core.Bool.{true, false, cond};
+ghost use Prim.Native.Nat.{_+_, _≤_, _<_};
+ghost use lib.IntN.{pos, negsuc, natAbs, _+ℤ_};
+ghost use Rattle.raster.specs.Limits.{maxSide};
+ghost use Rattle.raster.specs.Vector.{UnitStep, size};
+ghost use Rattle.raster.specs.Map.{Inside, dxAt, dyAt};
+ghost use Rattle.candidate.specs.Holding.{square, Sized, AtPixel, noSize, isGiven, Given, Ahead, offerGiven, Offered};
 
 // ---- one candidate
 
-// The vector of a pixel with its size, and the flag.
+// A vector with its size. Where the size is 2³¹, which no vector on a sheet has, there is none.
 pub struct SizedVector {
     pub dx: i32,
     pub dy: i32,
     pub size: u32,
-    pub over: bool,
 }
 
 // One of two numbers.
@@ -59,50 +56,33 @@ fn growth(v: i32, o: i32) -> u32
     4096
 }
 
-// Whether the candidate of a neighbour is in the range. c is the neighbour's vector after the step up or down, o the step to the side.
-fn is_allowed(c: SizedVector, o: i32) -> bool
-    requires { ⌜ Short (c .dx) × UnitStep o ⌝ }
-    ensures { λ r. ⌜ r ≡ inRange (c .dx +ℤ o) && inRange (c .dy) ⌝ }
-{
-    raster::in_range(raster::shifted(c.dx, o)) & raster::in_range(c.dy)
-}
-
 // The size of the candidate that c and the step o to the side give, from the size of c.
 fn size_after(c: SizedVector, o: i32) -> u32
-    requires { ⌜ (c .size ≡ size (c .dx) (c .dy)) × (UnitStep o × (inRange (c .dx +ℤ o) && inRange (c .dy) ≡ true)) ⌝ }
-    ensures { λ r. ⌜ r ≡ size (c .dx +ℤ o) (c .dy) ⌝ }
+    requires { ⌜ Given c × UnitStep o ⌝ }
+    ensures candidate { λ r. ⌜ (isGiven c ≡ true → r ≡ size (c .dx +ℤ o) (c .dy)) ⌝ }
+    ensures none { λ r. ⌜ (isGiven c ≡ false → noSize ≤ r) ⌝ }
 {
     c.size + growth(c.dx, o) - 4096
 }
 
-// What a pixel that holds d holds after the candidate of a neighbour at (ox, oy); c is the neighbour's vector after the step (0, oy). The candidate of an
-// unlabelled neighbour is never in the range. So the code asks whether the neighbour is labelled only where the candidate is out of the range.
-fn better(d: SizedVector, c: SizedVector, ox: i32, oy: i32) -> SizedVector
-    requires { ⌜ (Sized d × Stepped oy c) × (UnitStep ox × UnitStep oy) ⌝ }
-    ensures { λ r. ⌜ Offered d (c .dx) (c .dy -ℤ oy) ox oy r ⌝ }
+// What a pixel that holds d holds after the candidate that c and the step o to the side give.
+fn better(d: SizedVector, c: SizedVector, o: i32) -> SizedVector
+    requires { ⌜ (Sized d × Given c) × UnitStep o ⌝ }
+    ensures { λ r. ⌜ Offered d c o r ⌝ }
 {
-    if !is_allowed(c, ox) {
-        return SizedVector {
-            dx: d.dx,
-            dy: d.dy,
-            size: d.size,
-            over: !raster::is_unlabelled(c.dx, c.dy - oy) | d.over,
-        };
-    }
-    let size = size_after(c, ox);
+    let size = size_after(c, o);
     let takes = size < d.size;
     SizedVector {
-        dx: pick(takes, raster::shifted(c.dx, ox), d.dx),
+        dx: pick(takes, c.dx + o, d.dx),
         dy: pick(takes, c.dy, d.dy),
         size: pick_size(takes, size, d.size),
-        over: d.over,
     }
 }
 
 // What pixel p holds.
-pub fn read(map: &[i16], p: usize, over: bool) -> SizedVector
+pub fn read(map: &[i16], p: usize) -> SizedVector
     requires { ⌜ Inside p (now map) ⌝ }
-    ensures { λ r. ⌜ AtPixel r (now (map .entry)) p × (r .over ≡ over) ⌝ }
+    ensures { λ r. ⌜ AtPixel r (now (map .entry)) p ⌝ }
 {
     let dx = raster::dx_at(map, p);
     let dy = raster::dy_at(map, p);
@@ -110,7 +90,6 @@ pub fn read(map: &[i16], p: usize, over: bool) -> SizedVector
         dx,
         dy,
         size: raster::size_of(dx, dy),
-        over,
     }
 }
 
@@ -118,39 +97,30 @@ pub fn read(map: &[i16], p: usize, over: bool) -> SizedVector
 // so that here a branch is faster than a choice of numbers.
 pub fn relax(map: &mut [i16], at: usize, n: SizedVector, o: i32) -> SizedVector
     requires { ⌜ Inside at (now map) ⌝ }
-    requires { ⌜ Sized n × UnitStep o ⌝ }
-    ensures written { λ r. ⌜ state (now (map .exit)) (r .over) ≡ offerFlagged at (n .dx) (n .dy) o (pos 0) (state (now (map .entry)) (n .over)) ⌝ }
+    requires { ⌜ (isGiven n ≡ true → Given n) × UnitStep o ⌝ }
+    ensures written { λ r. ⌜ now (map .exit) ≡ offerGiven n o at (now (map .entry)) ⌝ }
     ensures handed_on { λ r. ⌜ AtPixel r (now (map .exit)) at ⌝ }
 {
-    let d = read(map, at, n.over);
-    if !is_allowed(n, o) {
-        return SizedVector {
-            dx: d.dx,
-            dy: d.dy,
-            size: d.size,
-            over: !raster::is_unlabelled(n.dx, n.dy) | d.over,
-        };
+    let d = read(map, at);
+    if 2147483648 <= n.size {
+        return d;
     }
     let size = size_after(n, o);
     if size < d.size {
-        let dx = raster::shifted(n.dx, o);
+        let dx = n.dx + o;
         raster::put_at(map, at, dx, n.dy);
-        return SizedVector {
-            dx,
-            dy: n.dy,
-            size,
-            over: d.over,
-        };
+        return SizedVector { dx, dy: n.dy, size };
     }
     d
 }
 
 // ---- from row to row: o is −1 from the row above and 1 from the row below
 
-// The vector of pixel p with the step (0, o). Its flag is not set.
-fn ahead(map: &[i16], p: usize, o: i32) -> SizedVector
+// The vector of the labelled pixel p with the step (0, o).
+pub fn ahead(map: &[i16], p: usize, o: i32) -> SizedVector
     requires { ⌜ Inside p (now map) × UnitStep o ⌝ }
-    ensures { λ r. ⌜ Ahead o r (now (map .entry)) p × (r .over ≡ false) ⌝ }
+    requires { ⌜ (natAbs (dxAt (now map) p) < maxSide) × (natAbs (dyAt (now map) p) < maxSide) ⌝ }
+    ensures { λ r. ⌜ Ahead o r (now (map .entry)) p ⌝ }
 {
     let dx = raster::dx_at(map, p);
     let dy = raster::shifted(raster::dy_at(map, p), o);
@@ -158,70 +128,57 @@ fn ahead(map: &[i16], p: usize, o: i32) -> SizedVector
         dx,
         dy,
         size: raster::size_of(dx, dy),
-        over: false,
     }
 }
 
-// What `ahead` gives of a pixel that is not there: the vector of an unlabelled one, with the step (0, o). Its flag is not set either.
-pub fn nothing(o: i32) -> SizedVector
-    requires { ⌜ UnitStep o ⌝ }
-    ensures { λ r. ⌜ (Stepped o r × (unlabelled (r .dx) (r .dy -ℤ o) ≡ true)) × (r .over ≡ false) ⌝ }
+// No vector: what a neighbour gives that is not there.
+pub fn nothing() -> SizedVector
+    ensures { λ r. ⌜ Given r × (isGiven r ≡ false) ⌝ }
 {
-    let dy = raster::shifted(-32768, o);
-    let over = false;
     SizedVector {
-        dx: -32768,
-        dy,
-        size: raster::size_of(-32768, dy),
-        over,
+        dx: 0,
+        dy: 0,
+        size: 2147483648,
     }
 }
 
-// Pixel `at` takes from its neighbour `from`, which stands at (0, o) from it.
-pub fn relax_straight(map: &mut [i16], at: usize, from: usize, o: i32, over: bool) -> bool
-    requires { ⌜ Inside at (now map) × Inside from (now map) ⌝ }
-    requires { ⌜ UnitStep o ⌝ }
-    ensures { λ r. ⌜ state (now (map .exit)) r ≡ relaxFlagged at from (pos 0) o (state (now (map .entry)) over) ⌝ }
+// Pixel `at` is offered the candidates of its neighbour in the row before, which is `mid` after the step to this row, and of its left neighbour.
+pub fn straight(map: &mut [i16], at: usize, mid: SizedVector, last: SizedVector) -> SizedVector
+    requires { ⌜ Inside at (now map) ⌝ }
+    requires { ⌜ Given mid × Given last ⌝ }
+    ensures written { λ r. ⌜ now (map .exit) ≡ offerGiven last (negsuc 0) at (offerGiven mid (pos 0) at (now (map .entry))) ⌝ }
+    ensures handed_on { λ r. ⌜ AtPixel r (now (map .exit)) at ⌝ }
 {
-    let c = ahead(map, from, o);
-    let d = read(map, at, over);
-    let after = better(d, c, 0, o);
-    raster::put_at(map, at, after.dx, after.dy);
-    after.over
+    let d = read(map, at);
+    let a = better(d, mid, 0);
+    let b = better(a, last, -1);
+    raster::put_at(map, at, b.dx, b.dy);
+    b
 }
 
-// The vector of pixel x of the row of w pixels from `start` on, if there is one, with the step (0, o).
-pub fn neighbour(map: &[i16], start: usize, x: usize, w: usize, o: i32) -> SizedVector
-    requires { ⌜ (2 * (start + w) ≤ length (now map)) × UnitStep o ⌝ }
-    ensures { λ r. ⌜ IfThere (ltb x w) o r (now (map .entry)) (start + x) × (r .over ≡ false) ⌝ }
-{
-    if x < w {
-        return ahead(map, start + x, o);
-    }
-    nothing(o)
-}
-
-// Pixel `at` is offered the candidates of its left, middle and right neighbour in the row before, all with the step (0, o).
+// Pixel `at` is offered the candidates of its left, middle and right neighbour in the row before, and of its left neighbour.
 pub fn three(
     map: &mut [i16],
     at: usize,
     left: SizedVector,
     mid: SizedVector,
     right: SizedVector,
-    o: i32,
-    over: bool,
-) -> bool
-    requires { ⌜ Inside at (now map) × (Stepped o left × (Stepped o mid × Stepped o right)) ⌝ }
-    requires { ⌜ UnitStep o ⌝ }
-    ensures { λ r. ⌜ state (now (map .exit)) r
-        ≡ offerFlagged at (right .dx) (right .dy -ℤ o) (pos 1) o
-        (offerFlagged at (mid .dx) (mid .dy -ℤ o) (pos 0) o
-        (offerFlagged at (left .dx) (left .dy -ℤ o) (negsuc 0) o (state (now (map .entry)) over))) ⌝ }
+    last: SizedVector,
+) -> SizedVector
+    requires { ⌜ Inside at (now map) ⌝ }
+    requires { ⌜ (Given left × Given mid) × (Given right × Given last) ⌝ }
+    ensures written { λ r. ⌜ now (map .exit)
+        ≡ offerGiven last (negsuc 0) at
+        (offerGiven right (pos 1) at
+        (offerGiven mid (pos 0) at
+        (offerGiven left (negsuc 0) at (now (map .entry))))) ⌝ }
+    ensures handed_on { λ r. ⌜ AtPixel r (now (map .exit)) at ⌝ }
 {
-    let d = read(map, at, over);
-    let a = better(d, left, -1, o);
-    let b = better(a, mid, 0, o);
-    let c = better(b, right, 1, o);
-    raster::put_at(map, at, c.dx, c.dy);
-    c.over
+    let d = read(map, at);
+    let a = better(d, left, -1);
+    let b = better(a, mid, 0);
+    let c = better(b, right, 1);
+    let e = better(c, last, -1);
+    raster::put_at(map, at, e.dx, e.dy);
+    e
 }

@@ -5,11 +5,11 @@
 -- Assumes nothing.
 use mathlib.Core.Path.{_≡_, sym, ap, _∙_}
 use mathlib.Core.Logic.{_⊎_, inl, inr}
-use mathlib.Core.Bool.{true, false, _&&_, true≢false, false≢true}
+use mathlib.Core.Bool.{true, false, true≢false, false≢true}
 use mathlib.Core.List.{List}
 use Prim.Native.Nat.{ℕ, _*_, _<_, _≤_}
 use native.Mathlib.Omega.{arith}
-use lib.IntN.{ℤ, pos, negsuc, _+ℤ_, _-ℤ_, +ℤ-comm, +ℤ-negℤ-cancel}
+use lib.IntN.{ℤ, pos, negsuc, natAbs, _+ℤ_, _-ℤ_, +ℤ-comm, +ℤ-negℤ-cancel}
 use lib.ListN.{length}
 use borrow.Author.Tests.{eqb-true}
 use Rattle.raster.specs.Distance.{apart, Copper, Clear}
@@ -19,8 +19,8 @@ use Rattle.raster.specs.Limits.{maxSide}
 use Rattle.raster.specs.Map.{dxAt, dyAt}
 use Rattle.raster.specs.MapLaws.{vectors-dx, vectors-dy, vectors-is}
 use Rattle.raster.specs.Pixels.{Mask, index}
-use Rattle.raster.specs.Vector.{size, mark, isMark, inRange, unlabelled, Target}
-use Rattle.raster.specs.VectorLaws.{range-labelled, way-ends, ends-size, target-range}
+use Rattle.raster.specs.Vector.{size, mark, isMark, unlabelled, Target}
+use Rattle.raster.specs.VectorLaws.{near-labelled, way-ends, ends-size, target-near}
 use Rattle.raster.specs.Tests.{and-left, and-right}
 use Rattle.exact.specs.Nearest.{Nearest, Exact, to-nearest, bare-sheet, SearchState, nearest, toColumn, toRow, exactMap, gate}
 use Rattle.exact.proofs.Search.{Answer, no-copper, nearest-at, found}
@@ -57,15 +57,17 @@ module _ (copper : Mask) (w h : ℕ) (wide : w ≤ maxSide) (tall : h ≤ maxSid
       go (to-nearest i j n e) = record { column = i; row = j; on-copper = n .on-copper; ends = e }
       go (bare-sheet bare u) = absurd (true≢false (sym u ∙ l))
 
-  pub in-range : unlabelled dx dy ≡ false → inRange dx && inRange dy ≡ true
-  in-range l = target-range copper w h x y dx dy wide tall across down (ends-on-copper l)
+  -- so no component is outside ±2,047
+  pub in-range : unlabelled dx dy ≡ false → (natAbs dx ≤ 2047) × (natAbs dy ≤ 2047)
+  in-range l = let n = target-near across down (ends-on-copper l) in (omega (arith, n .0), omega (arith, n .1))
 
   pub with-copper : (i j : ℕ) → Copper copper w h i j → unlabelled dx dy ≡ false
   with-copper i j c = go is-exact
     where
       go : Exact copper w h x y dx dy → unlabelled dx dy ≡ false
       go (to-nearest a b n e) =
-          range-labelled dx dy (and-left (inRange dx) _ (target-range copper w h x y dx dy wide tall across down (record { column = a; row = b; on-copper = n .on-copper; ends = e })))
+          let t : Target copper w h x y dx dy = record { column = a; row = b; on-copper = n .on-copper; ends = e } in
+          near-labelled dx dy (omega (arith, target-near across down t .0))
       go (bare-sheet bare u) = absurd (bare i j c)
 
   pub without-copper : ((i j : ℕ) → Copper copper w h i j → ⊥) → unlabelled dx dy ≡ true

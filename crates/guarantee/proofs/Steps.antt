@@ -22,10 +22,10 @@ use Rattle.cutter.proofs.Walk.{reached, on-the-way}
 use Rattle.session.specs.declared.Session.{Session}
 use Rattle.session.specs.State.{sound, active, cutterUp, stale, builtBy, cutterAs, ownCutter}
 use Rattle.session.specs.Maps.{engineMap}
-use Rattle.session.specs.Refusals.{openTable, fillTable, buildRows, buildTable, placeRows, placeTable, runRows, runTable, resizeTable, readTable}
+use Rattle.session.specs.Refusals.{openTable, fillTable, buildTable, placeRows, placeTable, runRows, runTable, resizeTable, readTable}
 use Rattle.session.specs.Calls.{filledBy, runSession}
 use Rattle.session.specs.Lists.{Lent, Call, opening, paint, erase, build, place, run, lift, expand, shrink, skeleton, rebuild, aside, World, world, lentTo, tableOf, answer, left, worldAfter}
-use Rattle.session.proofs.Granted.{open-granted, fill-granted, Building, build-done, build-overflows, place-done, place-stopped, RunGranted, run-done, run-stopped, resize-granted}
+use Rattle.session.proofs.Granted.{open-granted, fill-granted, Building, build-granted, place-done, place-stopped, RunGranted, run-done, run-stopped, resize-granted}
 use Rattle.guarantee.specs.Board.{BoardCutter, up, down, Board, recoppered, withCutter, cutterRun, done, feed}
 use Rattle.guarantee.specs.Claims.{Visits, at-place, at-step, Safe, Fair, Claim, SameCutter, Free}
 use Rattle.guarantee.proofs.Answers.{without, never}
@@ -37,20 +37,20 @@ pub record StepHolds (c : Call) (b : Board) (w : World) : Type 0 where
   pub claim : Claim c (answer c w) b
   pub next : Inv (feed c (answer c w) b) (worldAfter c w)
 
--- a call that is refused, save with 35, leaves everything as it was
-refused : (c : Call) (w : World) → eqb (answer c w) 0 ≡ false → eqb (answer c w) 35 ≡ false → worldAfter c w ≡ w
-refused (opening x y o) w e f = rw e
-refused (paint x y c r) w e f = rw e
-refused (erase x y c r) w e f = rw e
-refused (build n s) w e f = rw (e, f)
-refused (place x y q) w e f = rw e
-refused (run d n) w e f = rw e
-refused lift w e f = rw e
-refused (expand q s) w e f = rw e
-refused (shrink q s) w e f = rw e
-refused (skeleton o) w e f = refl
-refused (rebuild m o) w e f = refl
-refused aside w e f = refl
+-- a call that is refused leaves everything as it was
+refused : (c : Call) (w : World) → eqb (answer c w) 0 ≡ false → worldAfter c w ≡ w
+refused (opening x y o) w e = rw e
+refused (paint x y c r) w e = rw e
+refused (erase x y c r) w e = rw e
+refused (build n s) w e = rw e
+refused (place x y q) w e = rw e
+refused (run d n) w e = rw e
+refused lift w e = rw e
+refused (expand q s) w e = rw e
+refused (shrink q s) w e = rw e
+refused (skeleton o) w e = refl
+refused (rebuild m o) w e = refl
+refused aside w e = refl
 
 -- ---- what holds of the pixels that a call visits
 
@@ -88,29 +88,25 @@ module _ {b : Board} {w : World} (inv : Inv b w) where
   same : (i j : ℕ) → i < s .width → j < s .height → copperOf (w .sheet) (s .width) i j ≡ b .copper i j
   same = inv .agree .copper
 
-  -- the invariant after any call, from what it is after one that is done and after 35
-  after-inv : (c : Call) → (answer c w ≡ 0 → Inv (done c b) (left c 0 w)) → (answer c w ≡ 35 → Inv (recoppered (b .copper) b) (left c 35 w))
-      → Inv (feed c (answer c w) b) (worldAfter c w)
-  after-inv c when-done when-35 = go (eqb (answer c w) 0) (eqb (answer c w) 35) refl refl
+  -- the invariant after any call, from what it is after one that is done
+  after-inv : (c : Call) → (answer c w ≡ 0 → Inv (done c b) (left c 0 w)) → Inv (feed c (answer c w) b) (worldAfter c w)
+  after-inv c when-done = go (eqb (answer c w) 0) refl
     where
-      go : (t u : Bool) → eqb (answer c w) 0 ≡ t → eqb (answer c w) 35 ≡ u → Inv (cond t (done c b) (cond u (recoppered (b .copper) b) b)) (worldAfter c w)
-      go true u e f = let z = eqb-true (answer c w) 0 e in rw z (when-done z)
-      go false true e f = let z = eqb-true (answer c w) 35 f in rw z (when-35 z)
-      go false false e f = rw (refused c w e f) inv
+      go : (t : Bool) → eqb (answer c w) 0 ≡ t → Inv (cond t (done c b) b) (worldAfter c w)
+      go true e = let z = eqb-true (answer c w) 0 e in rw z (when-done z)
+      go false e = rw (refused c w e) inv
 
-  -- a call that never answers 35
-  step-holds : (c : Call) → without 35 (tableOf c w) ≡ true → (answer c w ≡ 0 → Safe c b × Inv (done c b) (left c 0 w)) → (answer c w ≡ 34 → Fair c b)
-      → StepHolds c b w
-  step-holds c no-35 when-done when-34 = record {
+  step-holds : (c : Call) → (answer c w ≡ 0 → Safe c b × Inv (done c b) (left c 0 w)) → (answer c w ≡ 34 → Fair c b) → StepHolds c b w
+  step-holds c when-done when-34 = record {
     claim = record { safe = λ e. when-done e .0; fair = when-34 };
-    next = after-inv c (λ e. when-done e .1) (λ e. absurd (never 35 (tableOf c w) refl no-35 e));
+    next = after-inv c (λ e. when-done e .1);
   }
 
-  -- a call that never answers 34 either, and visits no pixel
-  quiet-step : (c : Call) → without 34 (tableOf c w) ≡ true → without 35 (tableOf c w) ≡ true → ((x y q : ℕ) → Visits c (b .cutter) x y q → ⊥)
+  -- a call that never answers 34, and visits no pixel
+  quiet-step : (c : Call) → without 34 (tableOf c w) ≡ true → ((x y q : ℕ) → Visits c (b .cutter) x y q → ⊥)
       → (answer c w ≡ 0 → Inv (done c b) (left c 0 w)) → StepHolds c b w
-  quiet-step c no-34 no-35 still when-done =
-      step-holds c no-35 (λ e. ((λ x y q v. absurd (still x y q v)), when-done e)) (λ e. absurd (never 34 (tableOf c w) refl no-34 e))
+  quiet-step c no-34 still when-done =
+      step-holds c (λ e. ((λ x y q v. absurd (still x y q v)), when-done e)) (λ e. absurd (never 34 (tableOf c w) refl no-34 e))
 
   -- the session is stale, the board has the sheet's new copper
   stale-inv : active s ≡ true → (sheet : List ℕ) (map : List ℤ) (copper : Mask)
@@ -125,7 +121,7 @@ module _ {b : Board} {w : World} (inv : Inv b w) where
   pub open-step : (x y : ℕ) (o : Option Lent) → StepHolds (opening x y o) b w
   unfolding openTable
   open-step x y o =
-      quiet-step (opening x y o) refl refl (λ a c q. elim [ ])
+      quiet-step (opening x y o) refl (λ a c q. elim [ ])
       (λ e.
       let g = open-granted (lentTo o w .sheet) x y e in
       up-inv x y 0 false (λ i j. false) (bare (lentTo o w .sheet)) (lentTo o w .map) (open-sound x y (g .0)) refl
@@ -152,13 +148,13 @@ module _ {b : Board} {w : World} (inv : Inv b w) where
     pub paint-step : StepHolds (paint x y cols rows) b w
     unfolding fillTable
     paint-step =
-        quiet-step (paint x y cols rows) refl refl (λ a c q. elim [ ])
+        quiet-step (paint x y cols rows) refl (λ a c q. elim [ ])
         (fill-inv 1 _ (λ i j. painted (inRectangle x y cols rows i j) (b .copper i j)))
 
     pub erase-step : StepHolds (erase x y cols rows) b w
     unfolding fillTable
     erase-step =
-        quiet-step (erase x y cols rows) refl refl (λ a c q. elim [ ])
+        quiet-step (erase x y cols rows) refl (λ a c q. elim [ ])
         (fill-inv 0 _ (λ i j. erased (inRectangle x y cols rows i j) (b .copper i j)))
 
   -- ---- expand and shrink
@@ -173,13 +169,13 @@ module _ {b : Board} {w : World} (inv : Inv b w) where
     pub expand-step : StepHolds (expand q scratch) b w
     unfolding resizeTable
     expand-step =
-        quiet-step (expand q scratch) refl refl (λ a c r. elim [ ])
+        quiet-step (expand q scratch) refl (λ a c r. elim [ ])
         (resize-inv _ _ (λ i j k l. rw (← inv .agree .width, ← inv .agree .height) (expanded-copper (s .width) (s .height) i j k l q (w .sheet) (b .copper) same)))
 
     pub shrink-step : StepHolds (shrink q scratch) b w
     unfolding resizeTable
     shrink-step =
-        quiet-step (shrink q scratch) refl refl (λ a c r. elim [ ])
+        quiet-step (shrink q scratch) refl (λ a c r. elim [ ])
         (resize-inv _ _ (λ i j k l. rw (← inv .agree .width, ← inv .agree .height) (shrunk-copper (s .width) (s .height) i j k l q (w .sheet) (b .copper) same)))
 
   -- ---- calls that change nothing here
@@ -187,15 +183,15 @@ module _ {b : Board} {w : World} (inv : Inv b w) where
   pub skeleton-step : (out : List ℕ) → StepHolds (skeleton out) b w
   unfolding readTable
   skeleton-step out =
-      quiet-step (skeleton out) refl refl (λ a c q. elim [ ]) (λ e. inv)
+      quiet-step (skeleton out) refl (λ a c q. elim [ ]) (λ e. inv)
 
   pub rebuild-step : (marks out : List ℕ) → StepHolds (rebuild marks out) b w
   unfolding readTable
   rebuild-step marks out =
-      quiet-step (rebuild marks out) refl refl (λ a c q. elim [ ]) (λ e. inv)
+      quiet-step (rebuild marks out) refl (λ a c q. elim [ ]) (λ e. inv)
 
   pub aside-step : StepHolds aside b w
-  aside-step = quiet-step aside refl refl (λ a c q. elim [ ]) (λ e. inv)
+  aside-step = quiet-step aside refl (λ a c q. elim [ ]) (λ e. inv)
 
   -- ---- build
 
@@ -208,16 +204,9 @@ module _ {b : Board} {w : World} (inv : Inv b w) where
         (λ c. record { whole = g .held; map-is = refl }))
 
     pub build-step : StepHolds (build e scratch) b w
-    unfolding buildTable buildRows
-    build-step = record {
-      claim = record {
-        safe = λ p x y q. elim [ ];
-        fair = λ p. absurd (never 34 (tableOf (build e scratch) w) refl refl p);
-      };
-      next = after-inv (build e scratch)
-          (λ p. built-inv (build-done s (w .sheet) (w .map) scratch e p .0))
-          (λ p. stale-inv (build-overflows s (w .sheet) (w .map) scratch e p .open-sheet) (w .sheet) (unmapped (w .map)) (b .copper) same);
-    }
+    unfolding buildTable
+    build-step =
+        quiet-step (build e scratch) refl (λ a c q. elim [ ]) (λ p. built-inv (build-granted s (w .sheet) (w .map) scratch e refl p))
 
   -- ---- lift, place and run: the cutter alone changes
 
@@ -241,13 +230,13 @@ module _ {b : Board} {w : World} (inv : Inv b w) where
 
   pub lift-step : StepHolds lift b w
   lift-step =
-      quiet-step lift refl refl (λ a c q. elim [ ])
+      quiet-step lift refl (λ a c q. elim [ ])
       (λ e. rw (inv .fine) (cutter-inv false 0 0 0 up refl (up-sound s (inv .fine)) (λ l. absurd (true≢false (sym l)))))
 
   pub place-step : (x y q : ℕ) → StepHolds (place x y q) b w
   unfolding placeTable placeRows
   place-step x y q =
-      step-holds (place x y q) refl
+      step-holds (place x y q)
       (λ e.
       let r = place-done s (w .map) x y q e in
       let g = r .0 in
@@ -322,7 +311,7 @@ module _ {b : Board} {w : World} (inv : Inv b w) where
     pub run-step : StepHolds (run d n) b w
     unfolding runTable runRows
     run-step =
-        step-holds (run d n) refl
+        step-holds (run d n)
         (λ e.
         let r = run-done s (w .map) d n e in
         let g = r .0 in (

@@ -9,7 +9,7 @@ use Rattle.raster.specs.Pixels.{tabulate, pixels}
 use Rattle.raster.specs.Refusal.{firstOf}
 use Rattle.raster.specs.Sheet.{copperOf}
 use Rattle.raster.specs.Vector.{size, replaces}
-use Rattle.candidate.specs.Candidate.{offer, overs}
+use Rattle.candidate.specs.Candidate.{offer}
 use Rattle.scan.specs.Scan.{seeds, rightward, leftward, fromThree, fromRow, scanned}
 use Rattle.exact.specs.Nearest.{nearest, exactMap}
 use Rattle.rebuild.specs.Rebuild.{covered, rebuilt}
@@ -20,7 +20,7 @@ use Rattle.cutter.specs.Gates.{passesAt}
 use Rattle.guarantee.specs.Table.{four, three, ends, Marked, m1, m2, m3, m4, m5, m6, m7, m8, m9, Says}
 
 pub boards : (m : Marked) → Says m
-unfolding four three ends exactMap vectors tabulate pixels nearest ascend descend anyBelow apart gap size copperOf scanned fromRow fromThree rightward leftward seeds offer overs replaces put passesAt passes g least skeletonOf removed takenBy rebuilt covered radiusQ radiusAnswer measurable firstOf
+unfolding four three ends exactMap vectors tabulate pixels nearest ascend descend anyBelow apart gap size copperOf scanned fromRow fromThree rightward leftward seeds offer replaces put passesAt passes g least skeletonOf removed takenBy rebuilt covered radiusQ radiusAnswer measurable firstOf
 boards m1 = (refl, (refl, (refl, (refl, refl))))
 boards m2 = (refl, refl)
 boards m3 = (refl, refl)

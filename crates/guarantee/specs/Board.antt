@@ -54,6 +54,6 @@ done (skeleton out) b = b
 done (rebuild marks out) b = b
 done aside b = b
 
--- after a call with its answer: 0 is done, 35 leaves no map and the cutter up, any other changes nothing
+-- after a call with its answer: 0 is done, any other changes nothing
 abbrev pub feed : Call → (answer : ℕ) → Board → Board
-feed c a b = cond (eqb a 0) (done c b) (cond (eqb a 35) (recoppered (b .copper) b) b)
+feed c a b = cond (eqb a 0) (done c b) b

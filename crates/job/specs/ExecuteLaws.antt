@@ -17,9 +17,10 @@ use Rattle.raster.specs.Sheet.{bare}
 use Rattle.morphology.specs.Resize.{expanded, shrunk}
 use Rattle.session.specs.declared.Session.{Session}
 use Rattle.session.specs.declared.Reply.{Reply}
-use Rattle.session.specs.State.{openedAs, stale, downAt}
+use Rattle.session.specs.State.{openedAs, stale, builtBy, downAt}
+use Rattle.session.specs.Maps.{engineMap}
 use Rattle.session.specs.Refusals.{openTable, fillTable, buildTable, placeTable, runTable, resizeTable}
-use Rattle.session.specs.Calls.{onDone, filledBy, buildSession, buildMap, scratchBy, runSession, liftSession}
+use Rattle.session.specs.Calls.{onDone, filledBy, scratchBy, runSession, liftSession}
 use Rattle.session.specs.Lists.{World, world}
 use Rattle.records.specs.declared.Record.the-variants.{Open, Paint, Erase, Build, Place, Run, Lift, Expand, Shrink}
 use Rattle.job.specs.declared.Done.{Done}
@@ -92,6 +93,9 @@ joined false s₁ s₂ a₁ a₂ m₁ m₂ = refl
 joined-sheet : (t : Bool) (s₁ s₂ : Session) (a₁ a₂ : List ℕ) (m : List ℤ) → world (cond t s₁ s₂) (cond t a₁ a₂) m ≡ cond t (world s₁ a₁ m) (world s₂ a₂ m)
 joined-sheet t s₁ s₂ a₁ a₂ m = ap (λ (n : List ℤ). world (cond t s₁ s₂) (cond t a₁ a₂) n) (one t m) ∙ joined t s₁ s₂ a₁ a₂ m m
 
+joined-map : (t : Bool) (s₁ s₂ : Session) (a : List ℕ) (m₁ m₂ : List ℤ) → world (cond t s₁ s₂) a (cond t m₁ m₂) ≡ cond t (world s₁ a m₁) (world s₂ a m₂)
+joined-map t s₁ s₂ a m₁ m₂ = ap (λ (b : List ℕ). world (cond t s₁ s₂) b (cond t m₁ m₂)) (one t a) ∙ joined t s₁ s₂ a a m₁ m₂
+
 joined-session : (t : Bool) (s₁ s₂ : Session) (a : List ℕ) (m : List ℤ) → world (cond t s₁ s₂) a m ≡ cond t (world s₁ a m) (world s₂ a m)
 joined-session t s₁ s₂ a m = ap (λ (b : List ℕ). world (cond t s₁ s₂) b m) (one t a) ∙ joined-sheet t s₁ s₂ a a m
 
@@ -162,12 +166,15 @@ module _ (s : Session) (n : ℕ) (map : List ℤ) (r : Reply) where
 
 module _ (s : Session) (n : ℕ) (sheet : List ℕ) (map scratch : List ℤ) (r : Reply) where
   pub build-executed : (e : ℕ) (left used : List ℤ) → r .answer ≡ firstOf (buildTable s (take n sheet) (take (2 * n) map) scratch e)
-      → r .session ≡ buildSession s e (r .answer)
-      → take (2 * n) left ≡ buildMap s (take n sheet) (take (2 * n) map) e (r .answer)
+      → r .session ≡ onDone (r .answer) (builtBy e s) s
+      → take (2 * n) left ≡ onDone (r .answer) (engineMap s (take n sheet) e) (take (2 * n) map)
       → drop (2 * n) left ≡ drop (2 * n) map
       → used ≡ cond (eqb (r .answer) 0 && eqb e 1) (scratchBy s scratch) scratch
       → Executed (Build e) (jobState s n sheet map scratch) (r .answer) (jobState (r .session) n sheet left used)
-  build-executed e left used answer session lent behind scratch-used = record { answer = answer; left = rw (← answer, session, lent, behind, scratch-used) }
+  build-executed e left used answer session lent behind scratch-used = record {
+    answer = answer;
+    left = rw (← answer, session, lent, behind, scratch-used) (same-state (joined-map (eqb (r .answer) 0) _ _ _ _ _) refl refl);
+  }
 
   module _ (q : ℕ) (cut : List ℕ) (left used : List ℤ) (answer : r .answer ≡ firstOf (resizeTable s (take n sheet) (take (2 * n) map) scratch q))
       (session : r .session ≡ onDone (r .answer) (stale s) s)

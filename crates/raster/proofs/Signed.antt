@@ -2,17 +2,17 @@
 -- answer says `simp (toZ-ofZ, +ℤ-idl, facts that each number fits) t`, and t speaks of plain numbers of ℤ, by the lemmas below.
 -- Assumes nothing.
 use mathlib.Core.Path.{_≡_, refl}
-use mathlib.Core.Bool.{not, _&&_, and-true}
+use mathlib.Core.Bool.{not}
 use Prim.Native.Nat.{zero, suc, _+_, _-_, _≤_}
 use native.Mathlib.Omega.{arith}
-use lib.Dec.{T, ltb→lt, eqb, ltb, leb·suc-suc}
+use lib.Dec.{T, ltb→lt, eqb}
 use lib.IntN.{ℤ, pos, negsuc, natAbs, negℤ, _+ℤ_}
 use lib.Signed.{ltZ, nonNeg, mag}
 use mir.Syntax.{w16, w32}
 use mir.Val.{SFits, Fits, ofZ}
 use borrow.Author.Tests.{eq-eqb, ne-eqb, eqb-true}
 use Rattle.raster.specs.Tests.{same}
-use Rattle.raster.specs.Vector.{Short, Wide, UnitStep, isMark, inRange}
+use Rattle.raster.specs.Vector.{Short, Wide, UnitStep, isMark}
 use Rattle.raster.specs.VectorLaws.{add-abs}
 
 -- what 16 bits hold, 32 bits hold
@@ -63,8 +63,3 @@ sum-wide a b f g = omega (arith, add-abs a b, short-wide a f)
 
 pub wide-fits : (z : ℤ) → Wide z → SFits w32 z
 wide-fits z f = omega (arith, mag-le z)
-
--- the range −2,047 to 2,047, by the two tests
-pub range-tests : (z : ℤ) → ltZ (negsuc 2047) z && ltZ z (pos 2048) ≡ inRange z
-range-tests (pos n) = leb·suc-suc n 2047
-range-tests (negsuc n) = and-true (ltb n 2047)

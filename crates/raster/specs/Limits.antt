@@ -13,7 +13,3 @@ maxQ = 4194304
 -- the table of refused input, 17: the most steps of a run
 abbrev pub maxCount : ℕ
 maxCount = 2047
-
--- the table of refused states, 35: the farthest that a component reaches
-abbrev pub maxReach : ℕ
-maxReach = 2047

@@ -3,12 +3,11 @@
 use mathlib.Core.Path.{_≡_}
 use mathlib.Core.Bool.{Bool, false, _&&_, _||_}
 use Prim.Native.Nat.{ℕ, _+_, _*_, _<_, _≤_}
-use lib.Dec.{eqb, ltb, leb}
+use lib.Dec.{eqb, ltb}
 use lib.IntN.{ℤ, pos, negsuc, natAbs, _+ℤ_}
 use lib.Signed.{mag}
 use Rattle.raster.specs.Pixels.{Mask}
 use Rattle.raster.specs.Distance.{Copper}
-use Rattle.raster.specs.Limits.{maxReach}
 
 -- a component, −32,768 to 32,767
 abbrev pub Short : ℤ → Type 0
@@ -37,10 +36,6 @@ isMark (negsuc n) = eqb n 32767
 -- both components are the mark: one alone is a vector like any other
 abbrev pub unlabelled : ℤ → ℤ → Bool
 unlabelled dx dy = isMark dx && isMark dy
-
--- not outside ±2,047, as refusal 35 asks
-abbrev pub inRange : ℤ → Bool
-inRange z = leb (natAbs z) maxReach
 
 -- (cx, cy) replaces (dx, dy): that is unlabelled or larger in size; an equal one does not
 unfoldable pub replaces : ℤ → ℤ → ℤ → ℤ → Bool

@@ -2,19 +2,19 @@
 -- speaks of signed numbers.
 -- Assumes nothing.
 use mathlib.Core.Path.{_≡_, refl, sym, ap, _∙_}
-use mathlib.Core.Bool.{Bool, true, false, cond, _&&_, _||_, false≢true}
+use mathlib.Core.Bool.{Bool, true, false, cond, _||_, false≢true}
 use Prim.Native.Nat.{ℕ, suc, _+_, _-_, _≤_, _<_}
 use native.Mathlib.Nat.{mul-le-mul}
 use native.Mathlib.Omega.{arith}
 use lib.Dec.{ltb}
 use lib.IntN.{ℤ, pos, negsuc, natAbs, subℕ, negℤ, _+ℤ_, _-ℤ_, +ℤ-idl, +ℤ-idr, +ℤ-assoc, +ℤ-comm, +ℤ-invr, negℤ-+ℤ, +ℤ-negℤ-cancel, -ℤ-+ℤ-cancel}
-use borrow.Author.Tests.{ne-eqb, eqb-true, le-leb, lt-ltb, le-ltb, ltb-true, ltb-false, leb-true}
+use borrow.Author.Tests.{ne-eqb, eqb-true, lt-ltb, le-ltb, ltb-true, ltb-false}
 use Rattle.raster.specs.Limits.{maxSide}
 use Rattle.raster.specs.Pixels.{Mask}
 use Rattle.raster.specs.Distance.{gap, apart}
 use Rattle.raster.specs.DistanceLaws.{gap-below}
 use Rattle.raster.specs.Tests.{and-left, and-right}
-use Rattle.raster.specs.Vector.{size, isMark, inRange, unlabelled, replaces, Ends, Target}
+use Rattle.raster.specs.Vector.{size, isMark, unlabelled, replaces, Ends, Target}
 
 -- ---- sums
 
@@ -31,16 +31,6 @@ add-abs (pos a) (negsuc b) = omega (arith, sub-abs a (suc b))
 add-abs (negsuc a) (pos b) = omega (arith, sub-abs b (suc a))
 add-abs (negsuc a) (negsuc b) = omega arith
 
--- ---- the range ±2,047
-
-pub range-abs : (z : ℤ) → inRange z ≡ true → natAbs z ≤ 2047
-range-abs z e = leb-true (natAbs z) 2047 e
-
--- a vector in the range is not the mark's
-pub range-labelled : (x y : ℤ) → inRange x ≡ true → unlabelled x y ≡ false
-range-labelled (pos n) y e = refl
-range-labelled (negsuc n) y e = rw (ne-eqb n 32767 (let h = range-abs (negsuc n) e in omega arith))
-
 -- ---- the mark
 
 pub mark-abs : (z : ℤ) → isMark z ≡ true → natAbs z ≡ 32768
@@ -52,23 +42,19 @@ pub unlabelled-size : (dx dy : ℤ) → unlabelled dx dy ≡ true → size dx dy
 unfolding size
 unlabelled-size dx dy u = rw (mark-abs dx (and-left (isMark dx) _ u), mark-abs dy (and-right (isMark dx) _ u))
 
--- an unlabelled pixel's numbers have a larger size than any vector in the range, so that sizes alone say what replaces it
-pub in-range-replaces : (dx dy cx cy : ℤ) → (inRange cx && inRange cy) && ltb (size cx cy) (size dx dy) ≡ (inRange cx && inRange cy) && replaces dx dy cx cy
-unfolding replaces size
-in-range-replaces dx dy cx cy = go (inRange cx && inRange cy) (unlabelled dx dy) refl refl
-  where
-    far : inRange cx && inRange cy ≡ true → unlabelled dx dy ≡ true → size cx cy < size dx dy
-    far e u =
-        let a = range-abs cx (and-left (inRange cx) _ e) in
-        let b = range-abs cy (and-right (inRange cx) _ e) in
-        let x = mark-abs dx (and-left (isMark dx) _ u) in
-        let y = mark-abs dy (and-right (isMark dx) _ u) in
-        rw (x, y) (omega (arith, mul-le-mul a a, mul-le-mul b b))
+-- a component that is not the mark labels its vector
+pub near-labelled : (dx dy : ℤ) → natAbs dx ≤ maxSide → unlabelled dx dy ≡ false
+near-labelled (pos n) dy h = refl
+near-labelled (negsuc n) dy h = rw (ne-eqb n 32767 (omega arith))
 
-    go : (t u : Bool) → inRange cx && inRange cy ≡ t → unlabelled dx dy ≡ u → t && ltb (size cx cy) (size dx dy) ≡ t && (u || ltb (size cx cy) (size dx dy))
-    go false u e f = refl
-    go true false e f = refl
-    go true true e f = lt-ltb (size cx cy) (size dx dy) (far e f)
+-- an unlabelled pixel's numbers have a larger size than any vector near enough, so that sizes alone say what replaces it
+pub near-replaces : (dx dy cx cy : ℤ) → natAbs cx ≤ maxSide → natAbs cy ≤ maxSide → ltb (size cx cy) (size dx dy) ≡ replaces dx dy cx cy
+unfolding replaces size
+near-replaces dx dy cx cy a b = go (unlabelled dx dy) refl
+  where
+    go : (u : Bool) → unlabelled dx dy ≡ u → ltb (size cx cy) (size dx dy) ≡ u || ltb (size cx cy) (size dx dy)
+    go true u = lt-ltb (size cx cy) (size dx dy) (omega (arith, unlabelled-size dx dy u, mul-le-mul a a, mul-le-mul b b))
+    go false u = refl
 
 -- ---- where a vector ends
 
@@ -130,13 +116,9 @@ way-on y m =
     let e : m + y ≡ y + m = omega arith in
     sym (+ℤ-negℤ-cancel (pos m) (pos y)) ∙ ap (λ (t : ℕ). pos t -ℤ pos y) e
 
--- a vector that ends on a sheet of document 01's sides is in the range
-pub target-range : (copper : Mask) (w h x y : ℕ) (dx dy : ℤ) → w ≤ maxSide → h ≤ maxSide → x < w → y < h → Target copper w h x y dx dy → inRange dx && inRange dy ≡ true
-target-range copper w h x y dx dy wide tall a b t =
-    simp (
-      range dx (t .column) x w wide a (t .on-copper .across) (reach x (t .column) dx (t .ends .column)),
-      range dy (t .row) y h tall b (t .on-copper .down) (reach y (t .row) dy (t .ends .row)),
-    )
-  where
-    range : (d : ℤ) (i x n : ℕ) → n ≤ maxSide → x < n → i < n → natAbs d ≡ gap x i → inRange d ≡ true
-    range d i x n l a b e = le-leb (natAbs d) 2047 (omega (arith, gap-below x i n a b))
+-- a vector that ends on the sheet is shorter than its sides, in each component
+pub target-near : {copper : Mask} {w h x y : ℕ} {dx dy : ℤ} → x < w → y < h → Target copper w h x y dx dy → (natAbs dx < w) × (natAbs dy < h)
+target-near {copper} {w} {h} {x} {y} {dx} {dy} across down t = (
+  omega (arith, reach x (t .column) dx (t .ends .column), gap-below x (t .column) w across (t .on-copper .across)),
+  omega (arith, reach y (t .row) dy (t .ends .row), gap-below y (t .row) h down (t .on-copper .down)),
+)

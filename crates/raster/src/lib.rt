@@ -4,7 +4,7 @@ ghost use mathlib.Core.Path.{_≡_};
 ghost use Prim.Native.Nat.{_+_, _*_, _≤_};
 ghost use lib.IntN.{natAbs, _+ℤ_};
 ghost use lib.ListN.{length, replicate};
-ghost use Rattle.raster.specs.Vector.{Short, Wide, UnitStep, size, unlabelled, inRange};
+ghost use Rattle.raster.specs.Vector.{Short, Wide, UnitStep, size, unlabelled};
 ghost use Rattle.raster.specs.Map.{Inside, dxAt, dyAt, sizeAt, unlabelledAt, put, unmapped, hasCopper};
 ghost use Rattle.raster.specs.Sheet.{bare, spanned, filled};
 
@@ -48,13 +48,6 @@ pub fn shifted(v: i32, o: i32) -> i32
     ensures { λ r. ⌜ (r ≡ v +ℤ o) × Wide r ⌝ }
 {
     v + o
-}
-
-// Whether z lies within ±2,047.
-pub fn in_range(z: i32) -> bool
-    ensures { λ r. ⌜ r ≡ inRange z ⌝ }
-{
-    (-2048 < z) & (z < 2048)
 }
 
 // The first component at pixel p.

@@ -1,11 +1,13 @@
--- `Theorems` is what callers cite of the scans; what stands above it leads up to it. `Sowing` is what the proof of `write_seeds` cites.
-pub mod Seeds
-pub mod Sound
+-- `Theorems` is what callers cite of the scans, and what stands above it leads up to it; `Level`, `Window`, `Fused` and `Sowing` are what the proofs of functions cite.
 pub mod Within
+pub mod Seeds
 pub mod Cost
 pub mod Progress
 pub mod Sweeps
+pub mod Level
 pub mod Rows
+pub mod Window
+pub mod Fused
 pub mod Passes
 pub mod Theorems
 pub mod Sowing

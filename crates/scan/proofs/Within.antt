@@ -3,7 +3,7 @@
 -- Assumes nothing.
 use mathlib.Core.Path.{_≡_, ap, subst}
 use mathlib.Core.Logic.{_≢_}
-use mathlib.Core.Bool.{true, false, not}
+use mathlib.Core.Bool.{true, false}
 use mathlib.Core.List.{List}
 use Prim.Native.Nat.{ℕ, _+_, _*_, _-_, _≤_, _<_}
 use native.Mathlib.Decide.{ℕ-discrete, decLe}
@@ -12,11 +12,11 @@ use lib.IntN.{ℤ, natAbs, _+ℤ_}
 use borrow.Author.Tests.{ltb-true, ltb-false}
 use Rattle.raster.specs.DistanceLaws.{square-le, root-le}
 use Rattle.raster.specs.Vector.{UnitStep, size, unlabelled, replaces}
-use Rattle.raster.specs.VectorLaws.{add-abs, range-labelled}
+use Rattle.raster.specs.VectorLaws.{add-abs}
 use Rattle.raster.specs.Map.{Inside, dxAt, dyAt, put}
 use Rattle.raster.specs.MapLaws.{put-dx, put-dy, put-dx-other, put-dy-other}
-use Rattle.raster.specs.Tests.{and-left, and-right, or-left, or-right, cond-ind}
-use Rattle.candidate.specs.Candidate.{allowed, gives, offer}
+use Rattle.raster.specs.Tests.{or-left, or-right, cond-ind}
+use Rattle.candidate.specs.Candidate.{offer}
 use Rattle.candidate.proofs.Neighbours.{offer-ind}
 
 -- the vector (dx, dy) is labelled, and its size is at most (K / 12)²
@@ -87,23 +87,22 @@ here at x y m K i g = rw (put-dx at x y m i, put-dy at x y m i) g
 elsewhere : (at : ℕ) (x y : ℤ) (m : List ℤ) (p K : ℕ) → p ≢ at → Within m p K → Within (put at x y m) p K
 elsewhere at x y m p K n g = rw (put-dx-other at x y m p n, put-dy-other at x y m p n) g
 
-module _ (at : ℕ) (nx ny ox oy : ℤ) (m : List ℤ) (inside : Inside at m) where
-  -- a pixel within K stays so
-  pub kept : (p K : ℕ) → Within m p K → Within (offer nx ny ox oy at m) p K
-  kept p K g = offer-ind nx ny ox oy at m (λ n. Within n p K) g (λ v r. written v r (ℕ-discrete p at))
+-- a pixel is offered a vector that labels it
+module _ (at : ℕ) (cx cy : ℤ) (m : List ℤ) (inside : Inside at m) (labels : unlabelled cx cy ≡ false) where
+  -- what is within K stays so
+  pub kept : (p K : ℕ) → Within m p K → Within (offer cx cy at m) p K
+  kept p K g = offer-ind cx cy at m (λ n. Within n p K) g (λ r. written r (ℕ-discrete p at))
     where
-      written : gives nx ny ox oy ≡ true → replaces (dxAt m at) (dyAt m at) (nx +ℤ ox) (ny +ℤ oy) ≡ true → Dec (p ≡ at) → Within (put at (nx +ℤ ox) (ny +ℤ oy) m) p K
-      written v r (yes e) =
-          let l = range-labelled (nx +ℤ ox) (ny +ℤ oy) (and-left _ _ (and-right (not (unlabelled nx ny)) _ v)) in
+      written : replaces (dxAt m at) (dyAt m at) cx cy ≡ true → Dec (p ≡ at) → Within (put at cx cy m) p K
+      written r (yes e) =
           let g′ = subst (λ (q : ℕ). Within m q K) e g in
-          rw e (here at _ _ m K inside (record { labelled = l; near = omega (arith, smaller _ _ _ _ (g′ .labelled) r, g′ .near) }))
-      written v r (no n) = elsewhere at _ _ m p K n g
+          rw e (here at cx cy m K inside (record { labelled = labels; near = omega (arith, smaller _ _ _ _ (g′ .labelled) r, g′ .near) }))
+      written r (no n) = elsewhere at cx cy m p K n g
 
-  -- the pixel has the candidate, or something no larger
-  pub reached : (L : ℕ) → unlabelled nx ny ≡ false → allowed nx ny ox oy ≡ true → 144 * size (nx +ℤ ox) (ny +ℤ oy) ≤ L * L → Within (offer nx ny ox oy at m) at L
+  -- the pixel has that vector, or one no larger
+  pub reached : (L : ℕ) → 144 * size cx cy ≤ L * L → Within (offer cx cy at m) at L
   unfolding offer
-  reached L u a n =
-      simp (u, a)
-      (cond-ind (λ t. Within t at L) (replaces (dxAt m at) (dyAt m at) (nx +ℤ ox) (ny +ℤ oy))
-      (λ r. here at _ _ m L inside (record { labelled = range-labelled (nx +ℤ ox) (ny +ℤ oy) (and-left _ _ a); near = n }))
-      (λ r. let g = refused _ _ _ _ r in record { labelled = g .0; near = omega arith }))
+  reached L n =
+      cond-ind (λ t. Within t at L) (replaces (dxAt m at) (dyAt m at) cx cy)
+      (λ r. here at cx cy m L inside (record { labelled = labels; near = n }))
+      (λ r. let g = refused _ _ _ _ r in record { labelled = g .0; near = omega arith })

@@ -19,8 +19,7 @@ use Rattle.cutter.specs.Gates.{knownEngine, OnSheet, mayStand, leavesSheet, blo
 use Rattle.cutter.proofs.Walk.{on-sheet}
 use Rattle.session.specs.declared.Session.{Session}
 use Rattle.session.specs.State.{side, cutterSound, mapSound, sheetSound, sound, active, cutterOf, ownCutter}
-use Rattle.session.specs.Maps.{overflows}
-use Rattle.session.specs.Refusals.{notSheet, notMap, shortScratch, openTable, fillTable, buildRows, buildTable, placeRows, placeTable, runRows, runTable, resizeTable, readTable}
+use Rattle.session.specs.Refusals.{notSheet, notMap, shortScratch, openTable, fillTable, buildTable, placeRows, placeTable, runRows, runTable, resizeTable, readTable}
 
 both : (a b : Bool) → a && b ≡ true → (a ≡ true) × (b ≡ true)
 both a b e = (and-left a b e, and-right a b e)
@@ -95,8 +94,8 @@ pub record Building (s : Session) (sheet : List ℕ) (map scratch : List ℤ) (e
   pub known : knownEngine engine ≡ true
 
 pub build-granted : (s : Session) (sheet : List ℕ) (map scratch : List ℤ) (e : ℕ) {answer : ℕ}
-    → answer ≡ firstOf (buildRows s sheet map scratch e) → answer ≡ 0 → Building s sheet map scratch e
-unfolding buildRows
+    → answer ≡ firstOf (buildTable s sheet map scratch e) → answer ≡ 0 → Building s sheet map scratch e
+unfolding buildTable
 build-granted s sheet map scratch e table done =
     let f = none-holds _ refl (sym table ∙ done) in
     let others = or-right (notSheet s sheet) _ (f 1) in
@@ -107,19 +106,6 @@ build-granted s sheet map scratch e table done =
       spare = or-right (notMap s map) _ others;
       known = not-false _ (f 2);
     }
-
-module _ (s : Session) (sheet : List ℕ) (map scratch : List ℤ) (e : ℕ) where
-  -- the whole table answers 0, or 35
-  pub build-done : firstOf (buildTable s sheet map scratch e) ≡ 0 → Building s sheet map scratch e × (overflows s sheet e ≡ false)
-  unfolding buildTable buildRows
-  build-done z =
-      let r = last-fails (overflows s sheet e) 35 (omega arith) (buildRows s sheet map scratch e) refl z in
-      (build-granted s sheet map scratch e refl (r .0), r .1)
-
-  pub build-overflows : firstOf (buildTable s sheet map scratch e) ≡ 35 → Building s sheet map scratch e
-  unfolding buildTable buildRows
-  build-overflows z =
-      build-granted s sheet map scratch e refl (last-holds (overflows s sheet e) 35 (omega arith) (buildRows s sheet map scratch e) refl z .0)
 
 -- ---- place: as far as the gate
 

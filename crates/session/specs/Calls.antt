@@ -1,5 +1,4 @@
--- What each call leaves: document 01, "Calls". A call that answers 0 does what is said here; any other leaves the session and every slice as they came, but
--- for a build that answers 35.
+-- What each call leaves: document 01, "Calls". A call that answers 0 does what is said here; any other leaves the session and every slice as they came.
 -- Assumes nothing.
 use mathlib.Core.Bool.{Bool, cond, _&&_}
 use mathlib.Core.List.{List, []}
@@ -7,13 +6,11 @@ use Prim.Native.Nat.{ℕ, _*_}
 use lib.Dec.{eqb, ltb}
 use lib.IntN.{ℤ}
 use lib.ListN.{take, drop}
-use Rattle.raster.specs.Map.{unmapped}
 use Rattle.raster.specs.Sheet.{filled}
 use Rattle.exact.specs.Nearest.{scratchLeft}
 use Rattle.cutter.specs.Directions.{columnAfter, rowAfter}
 use Rattle.session.specs.declared.Session.{Session}
-use Rattle.session.specs.State.{fresh, sound, active, stale, builtBy, downAt, upOf}
-use Rattle.session.specs.Maps.{engineMap}
+use Rattle.session.specs.State.{fresh, sound, active, downAt, upOf}
 use Rattle.session.specs.Refusals.{isMap}
 
 -- done: the new value; refused: the old one
@@ -23,13 +20,6 @@ onDone a new old = cond (eqb a 0) new old
 -- paint and erase: v is 1 or 0
 abbrev pub filledBy : Session → (x y cols rows v : ℕ) → List ℕ → List ℕ
 filledBy s x y cols rows v sheet = filled (s .width) (s .height) x y cols rows v sheet
-
--- build: 35 alone changes something though it refuses: the map is left unlabelled and not current, the cutter up
-abbrev pub buildSession : Session → (engine answer : ℕ) → Session
-buildSession s e a = cond (eqb a 0) (builtBy e s) (cond (eqb a 35) (stale s) s)
-
-abbrev pub buildMap : Session → List ℕ → List ℤ → (engine answer : ℕ) → List ℤ
-buildMap s sheet map e a = cond (eqb a 0) (engineMap s sheet e) (cond (eqb a 35) (unmapped map) map)
 
 -- scratch after exact on the session's sheet
 abbrev pub scratchBy : Session → List ℤ → List ℤ

@@ -14,7 +14,6 @@ use Rattle.exact.specs.Nearest.{scratchNeed}
 use Rattle.cutter.specs.Gates.{knownEngine, mayStand, leavesSheet, blocked}
 use Rattle.session.specs.declared.Session.{Session}
 use Rattle.session.specs.State.{side, active, cutterOf, ownCutter}
-use Rattle.session.specs.Maps.{overflows}
 
 -- a slice of two numbers a pixel
 abbrev pub isMap : Session → List ℤ → Bool
@@ -65,17 +64,14 @@ skeletonTable s map out = readTable s map (notSheet s out)
 abbrev pub rebuildTable : Session → List ℤ → (marks out : List ℕ) → Table
 rebuildTable s map marks out = readTable s map (notSheet s marks || notSheet s out)
 
--- ---- build, place and run: the rows that look at numbers and lengths alone, then one that looks at pixels, which those before it let be read
-
-unfoldable pub buildRows : Session → List ℕ → (map scratch : List ℤ) → (engine : ℕ) → Table
-buildRows s sheet map scratch e =
+unfoldable pub buildTable : Session → List ℕ → (map scratch : List ℤ) → (engine : ℕ) → Table
+buildTable s sheet map scratch e =
     (not (active s), 30)
     ∷ (notSheet s sheet || (notMap s map || (eqb e 1 && shortScratch s scratch)), 12)
     ∷ (not (knownEngine e), 14)
     ∷ []
 
-unfoldable pub buildTable : Session → List ℕ → (map scratch : List ℤ) → (engine : ℕ) → Table
-buildTable s sheet map scratch e = buildRows s sheet map scratch e ++ ((overflows s sheet e, 35) ∷ [])
+-- ---- place and run: the rows that look at numbers and lengths alone, then one that looks at pixels, which those before it let be read
 
 unfoldable pub placeRows : Session → List ℤ → (x y q : ℕ) → Table
 placeRows s map x y q =

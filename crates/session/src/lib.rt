@@ -11,15 +11,14 @@ ghost use Rattle.morphology.specs.Resize.{expanded, shrunk};
 ghost use Rattle.rebuild.specs.Rebuild.{rebuilt};
 ghost use Rattle.skeleton.specs.Skeleton.{skeletonOf};
 ghost use Rattle.cutter.specs.Directions.{columnAfter, rowAfter};
-ghost use Rattle.session.specs.State.{fresh, openedAs, stale, downAt};
-ghost use Rattle.session.specs.Maps.{engineMap, overflows};
+ghost use Rattle.session.specs.State.{fresh, openedAs, stale, builtBy, downAt};
+ghost use Rattle.session.specs.Maps.{engineMap};
 ghost use Rattle.session.specs.Refusals.{
   openTable,
   fillTable,
   resizeTable,
   skeletonTable,
   rebuildTable,
-  buildRows,
   buildTable,
   placeTable,
   runTable,
@@ -27,8 +26,6 @@ ghost use Rattle.session.specs.Refusals.{
 ghost use Rattle.session.specs.Calls.{
   onDone,
   filledBy,
-  buildSession,
-  buildMap,
   scratchBy,
   runSession,
   liftSession,
@@ -103,24 +100,19 @@ fn fill(s: Session, sheet: &mut [u8], x: u16, y: u16, cols: u16, rows: u16, v: u
     answer
 }
 
-// Writes the engine's map; says whether a candidate of its scan left ±2,047, and leaves the map unlabelled then.
-fn write_map(s: Session, sheet: &[u8], map: &mut [i16], scratch: &mut [i16], engine: u16) -> bool
-    requires { ⌜ firstOf (buildRows s (now sheet) (now map) (now scratch) engine) ≡ 0 ⌝ }
-    ensures overflowed { λ r. ⌜ r ≡ overflows s (now (sheet .entry)) engine ⌝ }
-    ensures map_left { λ r. ⌜ now (map .exit) ≡ cond r (unmapped (now (map .entry))) (engineMap s (now (sheet .entry)) engine) ⌝ }
+// Writes the engine's map.
+fn write_map(s: Session, sheet: &[u8], map: &mut [i16], scratch: &mut [i16], engine: u16)
+    requires { ⌜ firstOf (buildTable s (now sheet) (now map) (now scratch) engine) ≡ 0 ⌝ }
+    ensures map_left { λ r. ⌜ now (map .exit) ≡ engineMap s (now (sheet .entry)) engine ⌝ }
     ensures scratch_left { λ r. ⌜ now (scratch .exit) ≡ cond (eqb engine 1) (scratchBy s (now (scratch .entry))) (now (scratch .entry)) ⌝ }
 {
     let w = s.width as usize;
     let h = s.height as usize;
     if engine == 1 {
         exact::exact(sheet, map, scratch, w, h);
-        return false;
+        return;
     }
-    if scan::scan(sheet, map, w, h, engine == 2) {
-        raster::clear_map(map);
-        return true;
-    }
-    false
+    scan::scan(sheet, map, w, h, engine == 2);
 }
 
 // The session with its cutter where the run ends.
@@ -199,28 +191,17 @@ impl Session {
     // Builds the map with engine 1 exact, 2 8SED or 3 4SED; it is current then, the cutter up.
     pub fn build(mut self, sheet: &[u8], map: &mut [i16], scratch: &mut [i16], engine: u16) -> Reply
         ensures answered { λ r. ⌜ r .answer ≡ firstOf (buildTable self (now (sheet .entry)) (now (map .entry)) (now (scratch .entry)) engine) ⌝ }
-        ensures handed_back { λ r. ⌜ r .session ≡ buildSession self engine (r .answer) ⌝ }
-        ensures map_left { λ r. ⌜ now (map .exit) ≡ buildMap self (now (sheet .entry)) (now (map .entry)) engine (r .answer) ⌝ }
+        ensures handed_back { λ r. ⌜ r .session ≡ onDone (r .answer) (builtBy engine self) self ⌝ }
+        ensures map_left { λ r. ⌜ now (map .exit) ≡ onDone (r .answer) (engineMap self (now (sheet .entry)) engine) (now (map .entry)) ⌝ }
         ensures scratch_left { λ r. ⌜ now (scratch .exit)
             ≡ cond (eqb (r .answer) 0 && eqb engine 1) (scratchBy self (now (scratch .entry))) (now (scratch .entry)) ⌝ }
     {
-        let answer = refusals::build_refusal(self, sheet, map, scratch, engine);
-        if answer != 0 {
-            return Reply {
-                answer,
-                session: self,
-            };
+        let answer = refusals::build_answer(self, sheet, map, scratch, engine);
+        let reply = replied(answer, state::built_by(self, engine), self);
+        if answer == 0 {
+            write_map(self, sheet, map, scratch, engine);
         }
-        if write_map(self, sheet, map, scratch, engine) {
-            return Reply {
-                answer: 35,
-                session: state::stale_of(self),
-            };
-        }
-        Reply {
-            answer,
-            session: state::built_by(self, engine),
-        }
+        reply
     }
 
     // Brings the cutter down at (x, y) with squared radius q, also where it was down before.

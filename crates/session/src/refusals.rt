@@ -3,7 +3,7 @@
 ghost use mathlib.Core.Path.{_≡_};
 ghost use Prim.Native.Nat.{_*_};
 ghost use Rattle.raster.specs.Refusal.{firstOf};
-ghost use Rattle.session.specs.Refusals.{isMap, openTable, fillTable, resizeTable, readTable, buildRows, placeRows, placeTable, runRows, runTable};
+ghost use Rattle.session.specs.Refusals.{isMap, openTable, fillTable, resizeTable, readTable, buildTable, placeRows, placeTable, runRows, runTable};
 use crate::Session;
 use crate::state;
 
@@ -87,8 +87,8 @@ pub fn read_answer(s: Session, map: &[i16], wrong: bool) -> u32
     0
 }
 
-pub fn build_refusal(s: Session, sheet: &[u8], map: &[i16], scratch: &[i16], engine: u16) -> u32
-    ensures { λ r. ⌜ r ≡ firstOf (buildRows s (now (sheet .entry)) (now (map .entry)) (now (scratch .entry)) engine) ⌝ }
+pub fn build_answer(s: Session, sheet: &[u8], map: &[i16], scratch: &[i16], engine: u16) -> u32
+    ensures { λ r. ⌜ r ≡ firstOf (buildTable s (now (sheet .entry)) (now (map .entry)) (now (scratch .entry)) engine) ⌝ }
 {
     if !state::is_active(s) {
         return 30;

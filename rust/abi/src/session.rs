@@ -2,7 +2,7 @@
 //!
 //! Each call takes the session by value and hands it back with its answer number. The calls ask nothing of their caller: any numbers,
 //! slices of any length and sessions with any fields get the answer that is theirs, and none of the calls panics. A refusal hands the
-//! session back as it came and writes nothing, but for 35 of [`Session::build`].
+//! session back as it came and writes nothing.
 //!
 //! ```
 //! use abi::session::{Reply, Session};
@@ -154,8 +154,7 @@ impl Session {
     }
 
     /// Builds the map by engine 1 exact, 2 8SED or 3 4SED. It is then current, the cutter up. Only exact tests and writes scratch, and
-    /// leaves its first W × H numbers at 0. Refusals: 30, 12, 14; 35, which no sheet gives and which would leave the map unlabelled and not
-    /// current, the cutter up.
+    /// leaves its first W × H numbers at 0. Refusals: 30, 12, 14.
     pub fn build(self, sheet: &[u8], map: &mut [i16], scratch: &mut [i16], engine: u16) -> Reply {
         let (map, map_len) = (map.as_mut_ptr(), map.len());
         // SAFETY: each pointer comes with the length of the slice it is from, map and scratch are lent to nobody else, and the function has

@@ -1,16 +1,13 @@
 //! The scans in safe Rust once more, tuned: a variant that relies on facts about the maps that a scan can reach. It works in the map alone.
 //!
 //! After its two sweeps a row is labelled throughout or not at all. So a neighbour in the row above or below is unlabelled only if all of
-//! that row is, and then the row gives nothing; and a sweep meets unlabelled neighbours only before the first labelled pixel. What the map
-//! holds is within ±2,047, so a candidate is outside exactly if its neighbour stands at the limit towards which it steps. Hence the pass
-//! from the row above or below and the sweep to the right become one, with next to no tests in it.
+//! that row is, and then the row gives nothing; and a sweep meets unlabelled neighbours only before the first labelled pixel. Hence the pass
+//! from the row above or below and the sweep to the right become one, with next to no tests in it. A row gets its start values just before
+//! its turn.
 
 type Pixel = [i16; 2];
 
 const UNLABELLED: Pixel = [-32_768; 2];
-
-/// The farthest component that a map may hold.
-const LIMIT: i32 = 2_047;
 
 /// A vector with its size. That of an unlabelled pixel is 2³¹, above all others.
 #[derive(Clone, Copy)]
@@ -46,8 +43,8 @@ impl Way {
     }
 }
 
-/// Writes the map of a sheet by 8SED (with `corners`) or 4SED (without). True if a candidate had a component outside ±2,047.
-pub fn scan(sheet: &[u8], map: &mut [i16], w: usize, h: usize, corners: bool) -> bool {
+/// Writes the map of a sheet by 8SED (with `corners`) or 4SED (without).
+pub fn scan(sheet: &[u8], map: &mut [i16], w: usize, h: usize, corners: bool) {
     assert!(w > 0 && sheet.len() == w * h && map.len() == 2 * w * h);
     let (map, _) = map.as_chunks_mut();
     if corners {
@@ -57,85 +54,71 @@ pub fn scan(sheet: &[u8], map: &mut [i16], w: usize, h: usize, corners: bool) ->
     }
 }
 
-fn scans<const CORNERS: bool>(sheet: &[u8], map: &mut [Pixel], w: usize, h: usize) -> bool {
-    let mut outside = false;
+fn scans<const CORNERS: bool>(sheet: &[u8], map: &mut [Pixel], w: usize, h: usize) {
     for y in 0..h {
         let (above, rest) = map.split_at_mut(y * w);
         let row = &mut rest[..w];
         for (pixel, &byte) in row.iter_mut().zip(&sheet[y * w..]) {
             *pixel = if byte == 0 { UNLABELLED } else { [0, 0] };
         }
-        outside |= one_row::<CORNERS, -1>(row, above.rchunks(w).next());
+        one_row::<CORNERS, -1>(row, above.rchunks(w).next());
     }
     for y in (0..h).rev() {
         let (rest, below) = map.split_at_mut((y + 1) * w);
-        outside |= one_row::<CORNERS, 1>(&mut rest[y * w..], below.chunks(w).next());
+        one_row::<CORNERS, 1>(&mut rest[y * w..], below.chunks(w).next());
     }
-    outside
 }
 
 /// One row of a scan, with the row at `DY` if there is one.
-fn one_row<const CORNERS: bool, const DY: i32>(row: &mut [Pixel], beside: Option<&[Pixel]>) -> bool {
-    let first = match beside {
+fn one_row<const CORNERS: bool, const DY: i32>(row: &mut [Pixel], beside: Option<&[Pixel]>) {
+    match beside {
         Some(beside) if beside[0] != UNLABELLED => beside_and_left::<CORNERS, DY>(row, beside),
         _ => sweep::<-1>(row.iter_mut()),
-    };
-    first | sweep::<1>(row.iter_mut().rev())
+    }
+    sweep::<1>(row.iter_mut().rev());
 }
 
 /// Each pixel from the labelled row at `DY` and in the same pass from its left neighbour.
-///
-/// What the map holds is within the limit, so a candidate is outside exactly if its neighbour stands at the limit towards which it steps.
-fn beside_and_left<const CORNERS: bool, const DY: i32>(row: &mut [Pixel], beside: &[Pixel]) -> bool {
+fn beside_and_left<const CORNERS: bool, const DY: i32>(row: &mut [Pixel], beside: &[Pixel]) {
     let w = row.len();
     let beside = &beside[..w];
     // the candidates of the row beside, before the step to the side that a corner adds
     let mut straight = Way::of(beside[0]).at(0, DY);
     let mut corner = straight;
-    let mut outside = straight.dy == (LIMIT + 1) * DY;
     let mut left = Way::of(row[0]).or(straight);
     if CORNERS && w > 1 {
         straight = Way::of(beside[1]).at(0, DY);
-        outside |= (straight.dx == LIMIT) | (straight.dy == (LIMIT + 1) * DY);
         left = left.or(straight.at(1, 0));
     }
     row[0] = left.pixel();
     for x in 1..w {
         let mut way = Way::of(row[x]);
         if CORNERS {
-            outside |= corner.dx == -LIMIT;
             way = way.or(corner.at(-1, 0)).or(straight);
             if x + 1 < w {
                 let next = Way::of(beside[x + 1]).at(0, DY);
-                outside |= (next.dx == LIMIT) | (next.dy == (LIMIT + 1) * DY);
                 way = way.or(next.at(1, 0));
                 (corner, straight) = (straight, next);
             }
         } else {
             straight = Way::of(beside[x]).at(0, DY);
-            outside |= straight.dy == (LIMIT + 1) * DY;
             way = way.or(straight);
         }
-        outside |= left.dx == -LIMIT;
         left = way.or(left.at(-1, 0));
         row[x] = left.pixel();
     }
-    outside
 }
 
 /// Each pixel of a row from the neighbour that the sweep comes from, at `DX`.
-fn sweep<'a, const DX: i32>(mut row: impl Iterator<Item = &'a mut Pixel>) -> bool {
-    let Some(first) = row.find(|pixel| **pixel != UNLABELLED) else { return false };
+fn sweep<'a, const DX: i32>(mut row: impl Iterator<Item = &'a mut Pixel>) {
+    let Some(first) = row.find(|pixel| **pixel != UNLABELLED) else { return };
     let mut neighbour = Way::of(*first);
-    let mut outside = false;
     for pixel in row {
         let candidate = neighbour.at(DX, 0);
-        outside |= neighbour.dx == LIMIT * DX;
         neighbour = Way::of(*pixel);
         if candidate.size < neighbour.size {
             neighbour = candidate;
             *pixel = candidate.pixel();
         }
     }
-    outside
 }

@@ -16,7 +16,7 @@ mod tests {
     use soak::calls::{Call, Slices};
     use soak::library::Library;
 
-    type Scan = fn(&[u8], &mut [i16], usize, usize, bool) -> bool;
+    type Scan = fn(&[u8], &mut [i16], usize, usize, bool);
 
     const SCANS: [Scan; 2] = [plain::scan, fused::scan];
 
@@ -30,7 +30,7 @@ mod tests {
             let expected = model::scans::scan(&board.sheet, board.w, board.h, corners).concat();
             for (which, scan) in SCANS.into_iter().enumerate() {
                 let mut map = anything(2 * board.sheet.len(), random);
-                assert!(!scan(&board.sheet, &mut map, board.w, board.h, corners), "scan {which}, corners {corners}: {board:?}");
+                scan(&board.sheet, &mut map, board.w, board.h, corners);
                 assert!(map == expected, "scan {which}, corners {corners}: {board:?}");
             }
         }
@@ -189,19 +189,5 @@ mod tests {
     #[test]
     fn calls_as_the_model() {
         on_boards(25, check_calls);
-    }
-
-    #[test]
-    fn outside() {
-        for corners in [false, true] {
-            for (at, expected) in [(0, true), (1, false), (2_047, false), (2_048, true)] {
-                for (w, h, place) in [(2_049, 1, (at, 0)), (1, 2_049, (0, at)), (2_049, 2, (at, 1)), (2, 2_049, (1, at))] {
-                    let board = Board::with(w, h, &[place]);
-                    for scan in SCANS {
-                        assert_eq!(scan(&board.sheet, &mut vec![0; 2 * w * h], w, h, corners), expected, "{w} × {h}, copper at {at}");
-                    }
-                }
-            }
-        }
     }
 }

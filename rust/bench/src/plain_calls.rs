@@ -6,7 +6,7 @@ use abi::session::{Reply, Session};
 /// The functions that write the maps.
 pub struct Engines {
     exact: fn(&[u8], &mut [i16], &mut [i16], usize, usize),
-    scan: fn(&[u8], &mut [i16], usize, usize, bool) -> bool,
+    scan: fn(&[u8], &mut [i16], usize, usize, bool),
 }
 
 /// The plain ones.
@@ -59,12 +59,7 @@ pub fn build(s: Session, sheet: &[u8], map: &mut [i16], scratch: &mut [i16], eng
     }
     match engine {
         1 => (by.exact)(sheet, map, scratch, w, h),
-        2 | 3 => {
-            if (by.scan)(sheet, map, w, h, engine == 2) {
-                map.fill(-32_768);
-                return Reply { answer: 35, session: stale(s) };
-            }
-        }
+        2 | 3 => (by.scan)(sheet, map, w, h, engine == 2),
         _ => return refused(s, 14),
     }
     done(Session { current: true, engine, ..stale(s) })

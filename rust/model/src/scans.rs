@@ -61,7 +61,6 @@ impl Map {
     fn candidate(&mut self, x: i64, y: i64, dx: i64, dy: i64) {
         let Some(neighbour) = self.way(x + dx, y + dy) else { return };
         let candidate = (neighbour.0 + dx, neighbour.1 + dy);
-        assert!(candidate.0.abs() <= 2_047 && candidate.1.abs() <= 2_047, "35 at ({x}, {y})");
         let replaces = match self.way(x, y) {
             None => true,
             Some(present) => size(present) > size(candidate),

@@ -105,7 +105,7 @@ impl Engine {
             }
     }
 
-    /// The map of a sheet. The scans assert that they meet no component outside ±2,047, so no build answers 35.
+    /// The map of a sheet.
     fn map(self, sheet: &[u8], w: usize, h: usize) -> Vec<[i16; 2]> {
         match self {
             Engine::Exact => exact::sooner(sheet, w, h),

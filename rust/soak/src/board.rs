@@ -102,7 +102,6 @@ impl Board {
                 };
                 assert!(self.engine != 0 && tested.iter().any(within), "34 with all copper far off: {about:?}");
             }
-            35 => (self.engine, self.cutter) = (0, None),
             _ => {}
         }
         self.agrees(session, sheet, about);

@@ -1,14 +1,21 @@
--- `candidate::ahead` meets its contract, by those of the calls.
+-- `candidate::ahead` meets its contract, by those of the calls. Its components are near, so the size is one that vectors have.
 -- Assumes nothing.
-use mathlib.Core.Path.{_≡_, refl, ap, _∙_}
+use mathlib.Core.Path.{_≡_, sym, ap, _∙_}
+use mathlib.Core.Bool.{true≢false}
+use Prim.Native.Nat.{_≤_, _<_}
 use native.Mathlib.Omega.{arith}
-use lib.IntN.{_-ℤ_}
+use lib.IntN.{natAbs, _+ℤ_}
 use mir.Syntax.{w32}
 use mir.Val.{SFits}
 use mir.ValLaws.{toZ-ofZ}
 use borrow.Author.Needs.{needs}
+use borrow.Author.Tests.{lt-ltb}
 use Rattle.raster.proofs.Signed.{short-wide}
-use Rattle.candidate.proofs.Carried.{forth-back}
+use Rattle.raster.specs.Limits.{maxSide}
+use Rattle.raster.specs.VectorLaws.{add-abs}
+use Rattle.raster.specs.Map.{dyAt}
+use Rattle.candidate.specs.Holding.{noSize}
+use Rattle.candidate.proofs.Carried.{near-size}
 use Rattle.candidate.proofs.ahead.Statement.{statement}
 use Rattle.candidate.proofs.ahead.Tie as tie
 
@@ -23,22 +30,29 @@ size-of-requires c κs =
     let x = c .before .before .dx-at in
     simp (toZ-ofZ, dx-fits c, dy-fits c) (omega (arith, short-wide (x .result) (x .ensures .1)), c .shifted .ensures .1)
 
+-- the second component is the pixel's, with the step
+dy-is : (c : tie.After-shifted) → let a = c .before .before .before .args in c .shifted .result ≡ dyAt (a .map .now) (a .p) +ℤ a .o
+dy-is c =
+    let y = c .before .dy-at in
+    let s = c .before .before .before in
+    let f : SFits w32 (y .result) = record { sfits = y .ok } in
+    (simp (toZ-ofZ, f, s .fits .o) at (c .shifted .ensures .0)) ∙ ap (λ z. z +ℤ s .args .o) (y .ensures .0)
+
 returns : tie.Need-returns
 returns c =
     let d = c .before in
     let x = d .before .before .dx-at in
-    let y = d .before .dy-at in
     let s = d .before .before .before in
-    let f : SFits w32 (y .result) = record { sfits = y .ok } in
-    let e : d .shifted .result -ℤ s .args .o ≡ y .result = ap (λ z. z -ℤ s .args .o) (simp (toZ-ofZ, f, s .fits .o) at (d .shifted .ensures .0)) ∙ forth-back (y .result) (s .args .o) in
-    simp (toZ-ofZ, dx-fits d, dy-fits d) (
-      record {
-        dx = x .ensures .0;
-        dy = e ∙ y .ensures .0;
-        stepped = record { short-dx = x .ensures .1; short-dy = rw e (y .ensures .1); own = simp (toZ-ofZ, dx-fits d, dy-fits d) at (c .size-of .ensures) };
-      },
-      refl,
-    )
+    let a : natAbs (x .result) < maxSide = rw (x .ensures .0) (s .pre .1 .0) in
+    let b : natAbs (d .shifted .result) ≤ maxSide = rw (dy-is d) (omega (arith, s .pre .1 .1, s .pre .0 .1, add-abs (dyAt (s .args .map .now) (s .args .p)) (s .args .o))) in
+    let z = simp (toZ-ofZ, dx-fits d, dy-fits d) at (c .size-of .ensures) in
+    let n = lt-ltb (c .size-of .result) noSize (rw z (near-size (x .result) (d .shifted .result) (omega arith) b)) in
+    simp (toZ-ofZ, dx-fits d, dy-fits d) (record {
+      dx = x .ensures .0;
+      dy = dy-is d;
+      is-given = n;
+      given = record { near-dx = a; near-dy = b; own = λ e. z; absent = λ e. absurd (true≢false (sym n ∙ e)) };
+    })
 
 pub ahead-spec : {M : Type 1} → statement M
 ahead-spec =

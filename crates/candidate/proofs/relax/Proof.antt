@@ -1,122 +1,101 @@
--- `candidate::relax` meets its contract. The lemmas say what the calls hand back; then each arm is `offered-out` or `offered-in`, and what stands at the
--- pixel after it is what was written there or what stood there before.
+-- `candidate::relax` meets its contract. Without a vector nothing changes. Otherwise either arm is what `offered` says of the candidate's size, and what stands
+-- at the pixel after it is what was written there or what stood there before.
 -- Assumes nothing.
-use mathlib.Core.Path.{_≡_, refl, sym, ap, _∙_}
-use mathlib.Core.Bool.{Bool, true, false, not, _&&_, _||_}
-use lib.IntN.{pos, _+ℤ_, +ℤ-idr}
+use mathlib.Core.Path.{_≡_, refl, sym}
+use mathlib.Core.Bool.{Bool, true, false, cond}
+use lib.Dec.{ltb}
+use lib.IntN.{_+ℤ_}
 use mir.Syntax.{w32}
 use mir.Val.{toZ, ofZ}
 use mir.ValLaws.{toZ-ofZ}
 use borrow.Author.Needs.{needs}
-use borrow.Author.Tests.{not-true, not-false, lt-ltb, le-ltb}
-use Rattle.raster.specs.Vector.{size, inRange}
+use borrow.Author.Tests.{lt-ltb, le-ltb}
 use Rattle.candidate.specs.declared.SizedVector.{SizedVector}
-use Rattle.candidate.specs.Candidate.{allowed}
-use Rattle.candidate.specs.Holding.{Offered}
-use Rattle.candidate.proofs.Carried.{fits-dx, fits-dy}
-use Rattle.candidate.proofs.Offer.{offered-out, offered-in, put-kept, held, written-first, written-next, written-last}
+use Rattle.candidate.specs.Holding.{noSize, isGiven, Given, Offered}
+use Rattle.candidate.proofs.Carried.{near-short, given-dx, given-dy, side-near, side-fits}
+use Rattle.candidate.proofs.Offer.{offered, put-kept, written-first, written-next, written-last}
 use Rattle.candidate.proofs.relax.Statement.{statement}
 use Rattle.candidate.proofs.relax.Tie as tie
 
-tested : (c : tie.After-is-allowed) → let a = c .before .before .before .args in c .is-allowed .result ≡ inRange (a .n .dx +ℤ a .o) && inRange (a .n .dy)
-tested c = simp (toZ-ofZ, c .before .before .before .fits .o) at (c .is-allowed .ensures)
-
-allowed-is : (c : tie.After-is-allowed) → let a = c .before .before .before .args in c .is-allowed .result ≡ allowed (a .n .dx) (a .n .dy) (a .o) (pos 0)
-allowed-is c = rw (+ℤ-idr (c .before .before .before .args .n .dy)) (tested c)
-
--- a candidate out of the range
 returns : tie.Need-returns
-returns c =
-    let t = c .before .before .before .before .before in
-    let h = t .before .before .read .ensures in
-    let s = t .before .before .before .before in
-    let a = s .args in
-    let n = s .pre .1 .0 in
-    let dx = toZ-ofZ w32 _ (fits-dx (h .0 .sized)) in
-    let dy = toZ-ofZ w32 _ (fits-dy (h .0 .sized)) in
-    let o = offered-out (t .before .before .read .result) (a .n .dx) (a .n .dy) (a .o) (pos 0) (h .0 .sized) (sym (allowed-is (t .before)) ∙ not-true _ (t .if1 .taken)) dx dy refl
-    (ap (λ (u : Bool). not u || t .before .before .read .result .over) (simp (toZ-ofZ, fits-dx n, fits-dy n) at (c .before .before .is-unlabelled .ensures))) in
-    let v = written-next (a .at) (a .map .now) (a .n .dx) (a .n .dy) (a .o) (pos 0) (s .pre .0) (written-first (a .at) (a .map .now) (h .0) (h .1)) o in
-    (written-last (a .at) (a .map .now) v (put-kept (a .at) (a .map .now) (dx ∙ h .0 .dx) (dy ∙ h .0 .dy)), record { dx = dx ∙ h .0 .dx; dy = dy ∙ h .0 .dy; sized = v .sized })
+returns c = rw (le-ltb (c .before .before .before .before .args .n .size) noSize (c .if1 .taken)) (refl, c .before .before .read .ensures)
 
--- a candidate in the range
+-- ---- there is a vector
+
+some : (c : tie.Else1) → isGiven (c .before .before .before .before .args .n) ≡ true
+some c = lt-ltb (c .before .before .before .before .args .n .size) noSize (c .if1 .left)
+
+given : (c : tie.Else1) → Given (c .before .before .before .before .args .n)
+given c = c .before .before .before .before .pre .1 .0 (some c)
+
 size-after-requires : tie.Need-size-after-requires
-size-after-requires c κs =
-    let s = c .before .before .before .before in
-    simp (toZ-ofZ, s .fits .o) (s .pre .1 .0 .own, (s .pre .1 .1, sym (tested (c .before)) ∙ not-false _ (c .if1 .left)))
+size-after-requires c κs = let s = c .before .before .before .before in simp (toZ-ofZ, s .fits .o) (given c, s .pre .1 .1)
 
-in-range : (c : tie.Else1) → let a = c .before .before .before .before .args in allowed (a .n .dx) (a .n .dy) (a .o) (pos 0) ≡ true
-in-range c = sym (allowed-is (c .before)) ∙ not-false _ (c .if1 .left)
+-- what the pixel holds, r, by the outcome t of the second test
+outcome : {r : SizedVector} (c : tie.After-size-after) (t : Bool) → let h = c .before .before .before in let s = h .before .before in
+    t ≡ ltb (c .size-after .result) (h .read .result .size)
+    → r .dx ≡ cond t (s .args .n .dx +ℤ s .args .o) (h .read .result .dx) → r .dy ≡ cond t (s .args .n .dy) (h .read .result .dy)
+    → r .size ≡ cond t (c .size-after .result) (h .read .result .size) → Offered (h .read .result) (s .args .n) (s .args .o) r
+outcome c t =
+    let h = c .before .before .before in
+    let s = h .before .before in
+    let e = simp (toZ-ofZ, s .fits .o) at (c .size-after .ensures) in
+    offered (h .read .result) (s .args .n) (s .args .o) (h .read .ensures .sized) (given (c .before)) (s .pre .1 .1) (c .size-after .result) (e .0) (e .1) t
 
-size-is : (c : tie.After-size-after) → let a = c .before .before .before .before .before .args in c .size-after .result ≡ size (a .n .dx +ℤ a .o) (a .n .dy +ℤ pos 0)
-size-is c =
-    let s = c .before .before .before .before .before in
-    rw (+ℤ-idr (s .args .n .dy)) (simp (toZ-ofZ, s .fits .o) at (c .size-after .ensures))
+sum-is : (s : tie.Start) → Given (s .args .n) → toZ w32 (ofZ w32 (toZ w32 (ofZ w32 (s .args .n .dx)) +ℤ toZ w32 (ofZ w32 (s .args .o)))) ≡ s .args .n .dx +ℤ s .args .o
+sum-is s g = simp (toZ-ofZ, given-dx g, s .fits .o, side-fits g (s .args .o) (s .pre .1 .1)) refl
 
--- the candidate as the code has it
-abbrev candidate : tie.After-shifted → SizedVector
-candidate c =
-    let z = c .before .before .before .before in record {
-      dx = toZ w32 (ofZ w32 (c .shifted .result));
-      dy = toZ w32 (ofZ w32 (z .before .before .before .before .before .args .n .dy));
-      size = z .size-after .result;
-      over = z .before .before .before .read .result .over;
-    }
-
--- the candidate is smaller
-smaller : (c : tie.After-shifted) → let r = c .before .before .before .before .before .before .before in
-    let a = r .before .before .args in Offered (r .read .result) (a .n .dx) (a .n .dy) (a .o) (pos 0) (candidate c)
-smaller c =
-    let z = c .before .before .before .before in
-    let r = z .before .before .before in
-    let s = r .before .before in
-    let a = s .args in
-    let n = s .pre .1 .0 in
-    offered-in (r .read .result) (a .n .dx) (a .n .dy) (a .o) (pos 0) (r .read .ensures .0 .sized) (s .pre .1 .1) (in-range (z .before)) true
-    (rw (← size-is z) (sym (lt-ltb _ _ (c .before .before .if2 .taken))))
-    (toZ-ofZ w32 _ (record { sfits = c .shifted .ok }) ∙ (simp (toZ-ofZ, fits-dx n, s .fits .o) at (c .shifted .ensures .0)))
-    (toZ-ofZ w32 _ (fits-dy n) ∙ sym (+ℤ-idr (a .n .dy)))
-    (size-is z)
-    refl
+add-dx : tie.Need-add-dx
+add-dx c =
+    let i = c .before .before .before .before .before in
+    let s = i .before .before .before .before in
+    simp (toZ-ofZ, given-dx (given i), s .fits .o) (side-fits (given i) (s .args .o) (s .pre .1 .1))
 
 put-at-requires : tie.Need-put-at-requires
-put-at-requires c κs = let v = smaller (c .before .before) .sized in (search needs, (v .short-dx, v .short-dy))
+put-at-requires c κs =
+    let i = c .before .before .before .before .before .before .before in
+    let s = i .before .before .before .before in
+    let g = given i in (
+      search needs,
+      (
+        rw (sum-is s g) (near-short (s .args .n .dx +ℤ s .args .o) (side-near g (s .args .o) (s .pre .1 .1))),
+        rw (toZ-ofZ w32 _ (given-dy g)) (near-short (s .args .n .dy) (g .near-dy)),
+      ),
+    )
 
 returns-2 : tie.Need-returns-2
 returns-2 c =
-    let p = c .before .before .before .before .before in
-    let r = p .before .before .before .before .before .before .before in
-    let s = r .before .before in
-    let a = s .args in
-    let h = r .read .ensures in
-    let e = c .before .before .put-at .ensures in
-    let v = written-next (a .at) (a .map .now) (a .n .dx) (a .n .dy) (a .o) (pos 0) (s .pre .0) (written-first (a .at) (a .map .now) (h .0) (h .1)) (smaller p) in
-    (written-last (a .at) (a .map .now) v e, rw e (held (a .at) (a .map .now) (s .pre .0) (v .sized)))
+    let k = c .before .before .before .before .before .before .before in
+    let z = k .before .before in
+    let i = z .before in
+    let h = i .before .before in
+    let s = h .before .before in
+    let at = s .args .at in
+    let m = s .args .map .now in
+    let o = outcome z true (sym (lt-ltb _ _ (k .if2 .taken))) (sum-is s (given i)) (toZ-ofZ w32 _ (given-dy (given i))) refl in
+    let v = written-next at m (s .args .o) (s .pre .0) (written-first at m (h .read .ensures)) o in
+    written-last at m (s .pre .0) v (c .before .before .put-at .ensures)
 
--- the candidate is not smaller
 returns-3 : tie.Need-returns-3
 returns-3 c =
     let z = c .before .before in
-    let r = z .before .before .before in
-    let s = r .before .before in
-    let a = s .args in
-    let h = r .read .ensures in
-    let o = offered-in (r .read .result) (a .n .dx) (a .n .dy) (a .o) (pos 0) (h .0 .sized) (s .pre .1 .1) (in-range (z .before)) false
-    (rw (← size-is z) (sym (le-ltb _ _ (c .if2 .left)))) refl refl refl refl in
-    let v = written-next (a .at) (a .map .now) (a .n .dx) (a .n .dy) (a .o) (pos 0) (s .pre .0) (written-first (a .at) (a .map .now) (h .0) (h .1)) o in
-    (written-last (a .at) (a .map .now) v (put-kept (a .at) (a .map .now) (h .0 .dx) (h .0 .dy)), h .0)
+    let h = z .before .before .before in
+    let s = h .before .before in
+    let at = s .args .at in
+    let m = s .args .map .now in
+    let o = outcome z false (sym (le-ltb _ _ (c .if2 .left))) refl refl refl in
+    let v = written-next at m (s .args .o) (s .pre .0) (written-first at m (h .read .ensures)) o in
+    written-last at m (s .pre .0) v (put-kept at m (h .read .ensures .dx) (h .read .ensures .dy))
 
 pub relax-spec : {M : Type 1} → statement M
 relax-spec =
     tie.close
     (tie.spec
     (λ c κs. search needs)
-    (λ c κs. search needs)
-    (λ c κs. search needs)
     (λ c. search needs)
     returns
     size-after-requires
-    (λ c κs. search needs)
+    add-dx
     put-at-requires
     (λ c. search needs)
     returns-2

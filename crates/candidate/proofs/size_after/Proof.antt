@@ -1,56 +1,52 @@
--- `candidate::size_after` meets its contract. The candidate is in the range, so its components before the step are within ±2,048, and what the step adds to the
--- square of one is added to the size.
+-- `candidate::size_after` meets its contract: what the step adds to the square of a component is added to the size. Where there is no vector, nothing is taken
+-- away, and the size stays too large.
 -- Assumes nothing.
-use mathlib.Core.Path.{_≡_, subst}
+use mathlib.Core.Path.{_≡_, refl, ap}
+use mathlib.Core.Bool.{Bool, true, false}
 use Prim.Native.Nat.{_+_, _≤_}
 use native.Mathlib.Nat.{mul-le-mul}
 use native.Mathlib.Omega.{arith}
-use lib.IntN.{ℤ, natAbs, negℤ, _+ℤ_}
-use mir.Syntax.{w32}
-use mir.Val.{SFits}
+use lib.IntN.{natAbs, _+ℤ_}
 use mir.ValLaws.{toZ-ofZ}
-use Rattle.raster.proofs.Signed.{minus-abs, wide-fits}
-use Rattle.raster.specs.Tests.{and-left, and-right}
-use Rattle.raster.specs.Vector.{UnitStep, size, inRange}
-use Rattle.raster.specs.VectorLaws.{add-abs, range-abs}
-use Rattle.candidate.specs.Holding.{square}
-use Rattle.candidate.proofs.Carried.{forth-back}
+use borrow.Author.Tests.{ltb-true}
+use Rattle.raster.specs.Limits.{maxSide}
+use Rattle.raster.specs.Vector.{size}
+use Rattle.candidate.specs.declared.SizedVector.{SizedVector}
+use Rattle.candidate.specs.Holding.{square, noSize, isGiven, Given}
+use Rattle.candidate.proofs.Carried.{given-dx}
 use Rattle.candidate.proofs.size_after.Statement.{statement}
 use Rattle.candidate.proofs.size_after.Tie as tie
 
--- what is in the range after a step is near before it
-near : (v o : ℤ) → UnitStep o → natAbs (v +ℤ o) ≤ 2047 → natAbs v ≤ 2048
-near v o s h =
-    omega (arith, subst (λ (z : ℤ). natAbs z ≤ natAbs (v +ℤ o) + natAbs (negℤ o)) (forth-back v o) (add-abs (v +ℤ o) (negℤ o)), minus-abs o)
-
-near-dx : (s : tie.Start) → natAbs (s .args .c .dx) ≤ 2048
-near-dx s =
-    let a = s .args in
-    near (a .c .dx) (a .o) (s .pre .1 .0) (range-abs (a .c .dx +ℤ a .o) (and-left (inRange (a .c .dx +ℤ a .o)) _ (s .pre .1 .1)))
-
--- the size of c, before the step
-own : (s : tie.Start) → s .args .c .size ≡ square (s .args .c .dx) + square (s .args .c .dy)
+-- the square of a component is part of the size, which is not above that of no vector
+parts : {c : SizedVector} → Given c → (square (c .dx) ≤ c .size) × (c .size ≤ noSize)
 unfolding size
-own s = s .pre .0
+parts {c} g = go (isGiven c) refl
+  where
+    near : natAbs (c .dx) ≤ maxSide
+    near = omega (arith, g .near-dx)
 
-small : (s : tie.Start) → s .args .c .size ≤ 8388608
-small s =
-    let h = range-abs (s .args .c .dy) (and-right (inRange (s .args .c .dx +ℤ s .args .o)) _ (s .pre .1 .1)) in
-    omega (arith, own s, mul-le-mul (near-dx s) (near-dx s), mul-le-mul h h)
-
-dx-fits : (s : tie.Start) → SFits w32 (s .args .c .dx)
-dx-fits s = wide-fits (s .args .c .dx) (omega (arith, near-dx s))
+    go : (t : Bool) → isGiven c ≡ t → (square (c .dx) ≤ c .size) × (c .size ≤ noSize)
+    go true e = (omega (arith, g .own e), omega (arith, ltb-true (c .size) noSize e))
+    go false e = let n = g .absent e in (omega (arith, n .1, mul-le-mul near near), omega (arith, n .1))
 
 -- what the step adds
 added : (c : tie.After-growth) → let a = c .before .before .args in c .growth .result + square (a .c .dx) ≡ 4096 + square (a .c .dx +ℤ a .o)
-added c = simp (toZ-ofZ, dx-fits (c .before .before), c .before .before .fits .o) at (c .growth .ensures .0)
+added c = let s = c .before .before in simp (toZ-ofZ, given-dx (s .pre .0), s .fits .o) at (c .growth .ensures .0)
+
+returns : tie.Need-returns
+unfolding size
+returns c =
+    let s = c .before .before .before in
+    let p = parts (s .pre .0) in (
+      (λ e. omega (arith, s .pre .0 .own e, added (c .before))),
+      (λ e. let n = s .pre .0 .absent e in omega (arith, n .1, ap (λ z. square z) (n .0), added (c .before))),
+    )
 
 pub size-after-spec : {M : Type 1} → statement M
-unfolding size
 size-after-spec =
     tie.close
     (tie.spec
-    (λ c κs. let s = c .before in simp (toZ-ofZ, dx-fits s, s .fits .o) (near-dx s, s .pre .1 .0))
-    (λ c. omega (arith, small (c .before .before .before), c .before .growth .ensures .1))
-    (λ c. omega (arith, own (c .before .before .before), added (c .before)))
-    (λ c. omega (arith, own (c .before .before .before), added (c .before))))
+    (λ c κs. let s = c .before in simp (toZ-ofZ, given-dx (s .pre .0), s .fits .o) (omega (arith, s .pre .0 .near-dx), s .pre .1))
+    (λ c. omega (arith, parts (c .before .before .before .pre .0) .1, c .before .growth .ensures .1))
+    (λ c. omega (arith, parts (c .before .before .before .pre .0) .0, added (c .before)))
+    returns)

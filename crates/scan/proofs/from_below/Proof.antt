@@ -1,5 +1,6 @@
 -- `scan::from_below` meets its contract: the code's test is the definition's, and where it holds `from_row` does the rest.
 -- Assumes nothing.
+use mathlib.Core.Path.{refl}
 use native.Mathlib.Nat.{mul-le-mul-right}
 use native.Mathlib.Omega.{arith}
 use borrow.Author.Needs.{needs}
@@ -10,13 +11,33 @@ use Rattle.scan.proofs.from_below.Tie as tie
 from-row-requires : tie.Need-from-row-requires
 from-row-requires c κs =
     let s = c .before .before in
-    let g = mul-le-mul-right (s .args .w) (s .pre .0) in
-    let h = mul-le-mul-right (s .args .w) (c .before .if1 .taken) in
-    ((λ e. omega arith, (omega arith, omega arith)), search needs)
+    let more = c .before .if1 .taken in
+    let g = mul-le-mul-right (s .args .w) (s .pre .0 .1 .0) in
+    let h = mul-le-mul-right (s .args .w) more in (
+      (s .pre .0 .0, ((λ e. omega arith), (omega (arith, g, s .pre .0 .1 .1), omega (arith, h, s .pre .0 .1 .1)))),
+      ((omega arith, refl), (s .pre .1 .0, s .pre .1 .1 more)),
+    )
 
 returns : tie.Need-returns
 returns c = rw (lt-ltb _ _ (c .before .before .before .if1 .taken)) (c .before .from-row .ensures)
 
+rightward-requires : tie.Need-rightward-requires
+rightward-requires c κs =
+    let s = c .before .before in
+    ((s .pre .0 .0, omega (arith, mul-le-mul-right (s .args .w) (s .pre .0 .1 .0), s .pre .0 .1 .1)), s .pre .1 .0)
+
+returns-2 : tie.Need-returns-2
+returns-2 c = rw (le-ltb _ _ (c .before .before .before .if1 .left)) (c .before .rightward .ensures)
+
 pub from-below-spec : {M : Type 1} → statement M
 from-below-spec =
-    tie.close (tie.spec (λ c. search needs) (λ c. search needs) from-row-requires (λ c. search needs) returns (λ c. rw (le-ltb _ _ (c .if1 .left))))
+    tie.close
+    (tie.spec
+    (λ c. search needs)
+    (λ c. search needs)
+    from-row-requires
+    (λ c. search needs)
+    returns
+    rightward-requires
+    (λ c. search needs)
+    returns-2)

@@ -1,50 +1,80 @@
--- `scan::from_straight` meets its contract. The invariant: map and flag are what the x pixels passed make of those at entry.
+-- `scan::from_straight` meets its contract. The invariant: the pixels below x have had what they take, and `last` is what the one to the left of x holds
+-- (`Passing`).
 -- Assumes nothing.
-use mathlib.Core.Path.{_≡_, refl, _∙_}
+use mathlib.Core.Path.{_≡_, refl, ap, _∙_}
 use mathlib.Core.Bool.{false}
-use Prim.Native.Nat.{_-_, _≤_}
+use Prim.Native.Nat.{_-_, _≤_, _<_}
 use native.Mathlib.Omega.{arith}
+use lib.IntN.{pos, negsuc}
 use lib.ListN.{length}
 use mir.Syntax.{w32}
 use mir.Val.{toZ}
 use mir.ValLaws.{toZ-ofZ}
 use borrow.Author.Needs.{needs}
-use Rattle.raster.specs.Loop.{ascend}
-use Rattle.raster.specs.LoopLaws.{up-turn}
-use Rattle.candidate.specs.Candidate.{state}
-use Rattle.scan.specs.Scan.{fromThree, fromRow}
+use Rattle.raster.specs.Pixels.{index}
+use Rattle.candidate.specs.Holding.{offerGiven}
+use Rattle.candidate.proofs.OnCopper.{near-pixel, row-on-sheet}
+use Rattle.candidate.proofs.Held.{ahead-relax}
+use Rattle.scan.specs.Scan.{fromThree}
+use Rattle.scan.proofs.Fused.{Passing, passing-start, passing-turn, passing-end}
 use Rattle.scan.proofs.from_straight.Statement.{statement}
 use Rattle.scan.proofs.from_straight.Tie as tie
 
 abbrev Inv-loop : tie.InvT-loop
-Inv-loop map₀ w y before o over met₀ x₀ map met x =
-    (state map met ≡ ascend (fromThree w false y before (toZ w32 o)) x (state map₀ over)) × (x ≤ w) × (length map ≡ length map₀)
+Inv-loop map₀ w y before o last₀ x₀ map last x = Passing w false y before (toZ w32 o) map₀ x last map × (x ≤ w) × (length map ≡ length map₀)
 
 abbrev μ-loop : tie.MeasureT-loop
-μ-loop map₀ w y before o over met₀ x₀ map met x = w - x
+μ-loop map₀ w y before o last₀ x₀ map last x = w - x
 
 loop-holds : tie.Need-loop-holds Inv-loop μ-loop
-unfolding ascend
-loop-holds c = (refl, omega arith, refl)
+loop-holds c =
+    let s = c .before in
+    (passing-start (s .args .w) false (s .args .y) (s .args .before) _ (s .pre .1 .1 .0) (s .pre .1 .1 .1) (c .nothing .ensures .0) (c .nothing .ensures .1), omega arith, refl)
 
-relax-straight-requires : tie.Need-relax-straight-requires Inv-loop μ-loop
-relax-straight-requires c κs =
+-- both rows are rows of the sheet
+on : (c : tie.In-loop Inv-loop μ-loop) → let a = c .before .before .before .args in let h = c .before .loop .inv .0 .sheet .height in (a .y < h) × (a .before < h)
+on c =
     let s = c .before .before .before in
-    simp (toZ-ofZ, s .fits .o) ((omega arith, omega arith), s .pre .1)
+    let p = c .before .loop .inv .0 .sheet in
+    (row-on-sheet p (s .args .y) (omega arith) (omega arith), row-on-sheet p (s .args .before) (omega arith) (omega arith))
+
+ahead-requires : tie.Need-ahead-requires Inv-loop μ-loop
+ahead-requires c κs =
+    let i = c .before in
+    let l = i .before .loop in
+    let s = i .before .before .before in
+    let p = l .inv .0 in
+    ((omega arith, simp (toZ-ofZ, s .fits .o) (s .pre .1 .0 .0)), near-pixel (p .sheet) (l .x) (s .args .before) (omega arith) (on i .1) (p .labelled (l .x) (omega arith)))
+
+straight-requires : tie.Need-straight-requires Inv-loop μ-loop
+straight-requires c κs =
+    let l = c .before .before .before .before .loop in
+    (search needs, (c .before .ahead .ensures .given, l .inv .0 .given))
 
 loop-again : tie.Need-loop-again Inv-loop μ-loop
 unfolding fromThree
 loop-again c =
-    let l = c .before .before .before .before in
-    let f = c .before .relax-straight in
-    (up-turn _ _ _ (f .ensures) (l .loop .inv .0), omega arith, f .kept .0 ∙ l .loop .inv .2)
+    let t = c .before .straight in
+    let v = c .before .before .before .ahead in
+    let i = c .before .before .before .before .before in
+    let l = i .before .loop in
+    let s = i .before .before .before in
+    let a = s .args in
+    let p = l .inv .0 in
+    let at = index (a .w) (l .x) (a .y) in
+    let e = ahead-relax (v .ensures) (p .labelled (l .x) (omega arith)) at (pos 0) in (
+      passing-turn (a .w) false (a .y) (a .before) _ (s .pre .0 .0) (simp (toZ-ofZ, s .fits .o) (s .pre .1 .0 .0)) (simp (toZ-ofZ, s .fits .o) (s .pre .1 .0 .1))
+          (l .x) (omega arith) p (on i .0) (on i .1) (t .ensures .0 ∙ ap (offerGiven (l .last) (negsuc 0) at) e) (t .ensures .1),
+      omega arith,
+      t .kept .0 ∙ l .inv .2,
+    )
 
 returns : tie.Need-returns Inv-loop μ-loop
-unfolding fromRow
 returns c =
-    let l = c .before in
-    let n : l .loop .x ≡ l .before .args .w = omega arith in
-    simp (n, toZ-ofZ, l .before .fits .o) at (l .loop .inv .0)
+    let l = c .before .loop in
+    let s = c .before .before .before in
+    let n : l .x ≡ s .args .w = omega arith in
+    simp (toZ-ofZ, s .fits .o) at (passing-end (s .args .w) false (s .args .y) (s .args .before) _ (rw n at (l .inv .0)))
 
 pub from-straight-spec : {M : Type 1} → statement M
 from-straight-spec =
@@ -52,12 +82,14 @@ from-straight-spec =
     (tie.spec
     Inv-loop
     μ-loop
+    (λ c κs. search needs)
     loop-holds
     (λ c. search needs)
     (λ c. search needs)
+    ahead-requires
     (λ c. search needs)
     (λ c. search needs)
-    relax-straight-requires
+    straight-requires
     (λ c. search needs)
     (λ c. search needs)
     loop-again

@@ -1,121 +1,148 @@
--- `scan::from_three` meets its contract. The invariant: map and flag are what the x pixels passed make of those at entry, `left` and `mid` are the
--- vectors of the pixels x − 1 and x of the row before, if there are such, with the step; the writes in row y leave those alone.
+-- `scan::from_three` meets its contract. The invariant: the pixels below x have had what they take, `last` is what the one to the left of x holds (`Passing`),
+-- and `left` and `mid` are the vectors of the pixels x − 1 and x of the row before, after the step (`IfThere`).
 -- Assumes nothing.
 use mathlib.Core.Path.{_≡_, refl, sym, ap, _∙_}
 use mathlib.Core.Logic.{_≢_}
-use mathlib.Core.Bool.{Bool, true, false≢true}
+use mathlib.Core.Bool.{true, false, false≢true, true≢false}
+use mathlib.Core.List.{List}
 use Prim.Native.Nat.{ℕ, _+_, _-_, _≤_, _<_}
+use native.Mathlib.Nat.{add-zero}
 use native.Mathlib.Omega.{arith}
 use lib.Dec.{ltb}
-use lib.IntN.{ℤ, pos, negsuc, _-ℤ_}
+use lib.IntN.{ℤ, pos, negsuc, _+ℤ_}
 use lib.ListN.{length}
 use mir.Syntax.{w32}
 use mir.Val.{toZ, ofZ}
 use mir.ValLaws.{toZ-ofZ}
 use borrow.Author.Needs.{needs}
-use borrow.Author.Tests.{lt-ltb, ltb-true}
-use Rattle.raster.specs.Loop.{ascend}
-use Rattle.raster.specs.LoopLaws.{up-turn}
+use borrow.Author.Tests.{lt-ltb, le-ltb}
 use Rattle.raster.specs.Pixels.{index}
-use Rattle.raster.specs.PixelsLaws.{index-one}
+use Rattle.raster.specs.Vector.{UnitStep}
+use Rattle.raster.specs.Map.{Inside, dxAt, dyAt, unlabelledAt}
 use Rattle.candidate.specs.declared.SizedVector.{SizedVector}
-use Rattle.candidate.specs.Candidate.{State, state, relaxFlagged, offerFlagged}
-use Rattle.candidate.specs.Holding.{IfThere}
-use Rattle.candidate.proofs.Neighbours.{at-pixel-offer, if-there-offer, if-there-stays}
-use Rattle.scan.specs.Scan.{fromRight, fromThree, fromRow}
+use Rattle.candidate.specs.Holding.{AtPixel, Ahead, offerGiven}
+use Rattle.candidate.proofs.OnCopper.{near-pixel, row-on-sheet}
+use Rattle.scan.proofs.Fused.{Passing, passing-start, passing-turn, passing-end, row-before}
+use Rattle.scan.proofs.Window.{IfThere, if-there-stays, three-offers}
 use Rattle.scan.proofs.from_three.Statement.{statement}
 use Rattle.scan.proofs.from_three.Tie as tie
 
--- ---- one pixel
-
-module _ (w y b : ℕ) (o : ℤ) (rows : y ≢ b) (x : ℕ) (on : x < w) (s : State) {left mid right : SizedVector}
-    (l : IfThere (ltb 0 x) o left (s .map) (index w (x - 1) b)) (m : IfThere (ltb x w) o mid (s .map) (index w x b)) (r : IfThere (ltb (x + 1) w) o right (s .map) (index w (x + 1) b)) where
-  abbrev at : ℕ
-  at = index w x y
-
-  -- pixels of the row before are others
-  elsewhere : (z : ℕ) → z < w → index w z b ≢ at
-  elsewhere z k e = rows (sym (index-one w z b x y k on e .1))
-
-  -- after one, two and three candidates
-  abbrev one : State
-  one = offerFlagged at (left .dx) (left .dy -ℤ o) (negsuc 0) o s
-
-  abbrev two : State
-  two = offerFlagged at (mid .dx) (mid .dy -ℤ o) (pos 0) o one
-
-  abbrev all : State
-  all = offerFlagged at (right .dx) (right .dy -ℤ o) (pos 1) o two
-
-  -- a pixel of the row before is still what it was
-  stays-one : {t : Bool} {n : SizedVector} (z : ℕ) → (t ≡ true → z < w) → IfThere t o n (s .map) (index w z b) → IfThere t o n (one .map) (index w z b)
-  stays-one z k e = if-there-stays at s e (left .dx) (left .dy -ℤ o) (negsuc 0) o (λ f. elsewhere z (k f))
-
-  stays-two : {t : Bool} {n : SizedVector} (z : ℕ) → (t ≡ true → z < w) → IfThere t o n (s .map) (index w z b) → IfThere t o n (two .map) (index w z b)
-  stays-two z k e = if-there-stays at one (stays-one z k e) (mid .dx) (mid .dy -ℤ o) (pos 0) o (λ f. elsewhere z (k f))
-
-  stays : {t : Bool} {n : SizedVector} (z : ℕ) → (t ≡ true → z < w) → IfThere t o n (s .map) (index w z b) → IfThere t o n (all .map) (index w z b)
-  stays z k e = if-there-stays at two (stays-two z k e) (right .dx) (right .dy -ℤ o) (pos 1) o (λ f. elsewhere z (k f))
-
-  made : all ≡ fromThree w true y b o x s
-  unfolding fromThree
-  made =
-      let h = stays-one x (λ _. on) m .there (lt-ltb x w on) in
-      if-there-offer at two (stays-two (x + 1) (ltb-true (x + 1) w) r) (pos 1)
-      ∙ ap (fromRight w true y b o x)
-      (at-pixel-offer at (index w x b) (pos 0) o one (h .dx) (h .dy) ∙ ap (relaxFlagged at (index w x b) (pos 0) o) (if-there-offer at s l (negsuc 0)))
-
-  -- the window moves on
-  turn : {t : State} → t ≡ all
-      → (t ≡ fromThree w true y b o x s) × IfThere (ltb 0 (x + 1)) o mid (t .map) (index w (x + 1 - 1) b) × IfThere (ltb (x + 1) w) o right (t .map) (index w (x + 1) b)
-  turn e =
-      let n : x ≡ x + 1 - 1 = omega arith in
-      (e ∙ made, rw (e, lt-ltb 0 (x + 1) (omega arith), ← n, ← lt-ltb x w on) (stays x (λ _. on) m), rw e (stays (x + 1) (ltb-true (x + 1) w) r))
-
--- ---- the loop
-
 abbrev Inv-loop : tie.InvT-loop
-Inv-loop map₀ w y before o over start met₀ left₀ mid₀ x₀ map met left mid x =
-    (state map met ≡ ascend (fromThree w true y before (toZ w32 o)) x (state map₀ over)) × (x ≤ w) × (length map ≡ length map₀)
-    × IfThere (ltb 0 x) (toZ w32 o) left map (index w (x - 1) before) × IfThere (ltb x w) (toZ w32 o) mid map (index w x before)
+Inv-loop map₀ w y before o start last₀ left₀ mid₀ x₀ map last left mid x =
+    Passing w true y before (toZ w32 o) map₀ x last map × (x < w) × (length map ≡ length map₀)
+    × IfThere (ltb 0 x) (toZ w32 o) left map (index w (x - 1) before) × IfThere true (toZ w32 o) mid map (index w x before)
 
 abbrev μ-loop : tie.MeasureT-loop
-μ-loop map₀ w y before o over start met₀ left₀ mid₀ x₀ map met left mid x = w - x
+μ-loop map₀ w y before o start last₀ left₀ mid₀ x₀ map last left mid x = w - x
+
+-- a vector that is read is there
+read : {o : ℤ} {c : SizedVector} {m : List ℤ} {p : ℕ} → Ahead o c m p → unlabelledAt m p ≡ false → IfThere true o c m p
+read a l = record { there = λ e. (a, l); none = λ e. absurd (true≢false e); given = a .given }
+
+-- one pixel more, and the row before is as it was
+turned : (w y b : ℕ) (rows : y ≢ b) (o : ℤ) → UnitStep o → pos y +ℤ o ≡ pos b → {m₀ m n : List ℤ} {last left mid right r : SizedVector} (x : ℕ) → x < w
+    → (p : Passing w true y b o m₀ x last m) → y < p .sheet .height → b < p .sheet .height
+    → IfThere (ltb 0 x) o left m (index w (x - 1) b) → IfThere true o mid m (index w x b) → IfThere (ltb (x + 1) w) o right m (index w (x + 1) b)
+    → n ≡ offerGiven last (negsuc 0) (index w x y) (offerGiven right (pos 1) (index w x y) (offerGiven mid (pos 0) (index w x y) (offerGiven left (negsuc 0) (index w x y) m)))
+    → AtPixel r n (index w x y)
+    → Passing w true y b o m₀ (x + 1) r n × ((z : ℕ) → z < w → (dxAt n (index w z b) ≡ dxAt m (index w z b)) × (dyAt n (index w z b) ≡ dyAt m (index w z b)))
+turned w y b rows o unit beside {last = last} x on p in-y in-b l c r e held =
+    let f = e ∙ ap (offerGiven last (negsuc 0) (index w x y)) (three-offers w y b rows o x on l c r) in
+    (passing-turn w true y b o rows unit beside x on p in-y in-b f held, row-before w true y b o rows unit beside x on p in-y in-b f)
+
+-- the functions' own numbers
+unit : (s : tie.Start Inv-loop μ-loop) → UnitStep (toZ w32 (ofZ w32 (s .args .o)))
+unit s = simp (toZ-ofZ, s .fits .o) (s .pre .1 .0 .0)
+
+beside : (s : tie.Start Inv-loop μ-loop) → pos (s .args .y) +ℤ toZ w32 (ofZ w32 (s .args .o)) ≡ pos (s .args .before)
+beside s = simp (toZ-ofZ, s .fits .o) (s .pre .1 .0 .1)
+
+-- both rows are rows of the sheet
+on : (c : tie.At-loop Inv-loop μ-loop) → let a = c .before .before .before .before .before .args in let h = c .loop .inv .0 .sheet .height in (a .y < h) × (a .before < h)
+on c =
+    let s = c .before .before .before .before .before in
+    let p = c .loop .inv .0 .sheet in
+    (row-on-sheet p (s .args .y) (s .pre .0 .0) (omega arith), row-on-sheet p (s .args .before) (s .pre .0 .0) (omega arith))
+
+-- and pixel x of row y is one of the map
+inside : (c : tie.At-loop Inv-loop μ-loop) → let a = c .before .before .before .before .before .args in Inside (index (a .w) (c .loop .x) (a .y)) (c .loop .map)
+inside c = let s = c .before .before .before .before .before in omega (arith, s .pre .0 .1 .1 .0, c .loop .inv .1, c .loop .inv .2)
+
+ahead-requires : tie.Need-ahead-requires Inv-loop μ-loop
+ahead-requires c κs =
+    let s = c .before .before .before in
+    let a = s .args in
+    let sheet = s .pre .1 .1 .0 in
+    let n = near-pixel sheet 0 (a .before) (s .pre .0 .0) (row-on-sheet sheet (a .before) (s .pre .0 .0) (s .pre .0 .1 .1 .1)) (s .pre .1 .1 .1 0 (s .pre .0 .0)) in
+    ((omega (arith, s .pre .0 .0), unit s), (rw add-zero at n))
 
 loop-holds : tie.Need-loop-holds Inv-loop μ-loop
-unfolding ascend
 loop-holds c =
-    let n = c .before .before .nothing .ensures .0 in
-    (refl, omega arith, refl, record { there = λ e. absurd (false≢true e); none = λ _. n .1; stepped = n .0 }, c .neighbour .ensures .0)
+    let n = c .before .before .before .nothing .ensures in
+    let k = c .before .before .nothing2 .ensures in
+    let s = c .before .before .before .before in
+    let a = s .args in (
+      passing-start (a .w) true (a .y) (a .before) _ (s .pre .1 .1 .0) (s .pre .1 .1 .1) (n .0) (n .1),
+      s .pre .0 .0,
+      refl,
+      record { there = λ e. absurd (false≢true e); none = λ e. k .1; given = k .0 },
+      rw add-zero (read (c .ahead .ensures) (rw add-zero at (s .pre .1 .1 .1 0 (s .pre .0 .0)))),
+    )
+
+ahead-requires-2 : tie.Need-ahead-requires-2 Inv-loop μ-loop
+ahead-requires-2 c κs =
+    let k = c .before .before in
+    let s = k .before .before .before .before .before in
+    let p = k .loop .inv .0 in
+    ((omega arith, unit s), near-pixel (p .sheet) (k .loop .x + 1) (s .args .before) (omega arith) (on k .1) (p .labelled (k .loop .x + 1) (omega arith)))
 
 three-requires : tie.Need-three-requires Inv-loop μ-loop
 three-requires c κs =
-    let l = c .before .before .before .before .loop .inv in
-    let s = c .before .before .before .before .before .before .before .before in
-    let left = l .3 .stepped in
-    let mid = l .4 .stepped in
-    let right = c .before .neighbour2 .ensures .0 .stepped in
-    ((omega arith, (search needs, (search needs, search needs))), simp (toZ-ofZ, s .fits .o) (s .pre .1))
+    let k = c .before .before .before .before in
+    let l = k .loop in
+    (inside k, search (l .inv .3 .given, l .inv .4 .given, c .before .ahead2 .ensures .given, l .inv .0 .given))
 
 loop-again : tie.Need-loop-again Inv-loop μ-loop
 loop-again c =
     let t = c .before .three in
-    let n = c .before .before .before .neighbour2 in
-    let l = c .before .before .before .before .before .before .loop in
-    let i = c .before .before .before .before .before .loop-test .taken in
-    let s = c .before .before .before .before .before .before .before .before .before .before in
+    let v = c .before .before .before .ahead2 in
+    let k = c .before .before .before .before .before .before in
+    let l = k .loop in
+    let s = k .before .before .before .before .before in
     let a = s .args in
-    let o = toZ w32 (ofZ w32 (a .o)) in
-    let v = turn (a .w) (a .y) (a .before) o (s .pre .0 .0) (l .x) i (state (l .map) (l .met)) (l .inv .3) (l .inv .4) (n .ensures .0) (t .ensures) in
-    (up-turn _ _ _ (v .0) (l .inv .0), omega arith, t .kept .0 ∙ l .inv .2, v .1, v .2)
+    let p = l .inv .0 in
+    let more : l .x + 1 < a .w = c .before .before .before .before .before .loop-test .taken in
+    let r = read (v .ensures) (p .labelled (l .x + 1) more) in
+    let g : IfThere (ltb (l .x + 1) (a .w)) (toZ w32 (ofZ w32 (a .o))) (v .result) (l .map) (index (a .w) (l .x + 1) (a .before)) = rw (lt-ltb (l .x + 1) (a .w) more) r in
+    let n = turned (a .w) (a .y) (a .before) (s .pre .0 .1 .0) _ (unit s) (beside s) (l .x) (l .inv .1) p (on k .0) (on k .1) (l .inv .3) (l .inv .4) g (t .ensures .0) (t .ensures .1) in
+    let e : l .x + 1 - 1 ≡ l .x = omega arith in (
+      n .0,
+      more,
+      t .kept .0 ∙ l .inv .2,
+      rw (lt-ltb 0 (l .x + 1) (omega arith), e) (if-there-stays (λ _. n .1 (l .x) (l .inv .1)) (l .inv .4)),
+      if-there-stays (λ _. n .1 (l .x + 1) more) r,
+    )
+
+three-requires-2 : tie.Need-three-requires-2 Inv-loop μ-loop
+three-requires-2 c κs =
+    let k = c .before .before .before in
+    let l = k .loop in
+    (inside k, search (l .inv .3 .given, l .inv .4 .given, c .nothing3 .ensures .0, l .inv .0 .given))
 
 returns : tie.Need-returns Inv-loop μ-loop
-unfolding fromRow
 returns c =
-    let l = c .before in
-    let s = l .before .before .before .before in
-    let n : l .loop .x ≡ s .args .w = omega arith in
-    simp (n, toZ-ofZ, s .fits .o) at (l .loop .inv .0)
+    let t = c .before .three2 in
+    let v = c .before .before .nothing3 in
+    let k = c .before .before .before .before .before in
+    let l = k .loop in
+    let s = k .before .before .before .before .before in
+    let a = s .args in
+    let last : a .w ≤ l .x + 1 = c .before .before .before .before .loop-test .left in
+    let g : IfThere (ltb (l .x + 1) (a .w)) (toZ w32 (ofZ w32 (a .o))) (v .result) (l .map) (index (a .w) (l .x + 1) (a .before)) =
+    record { there = λ e. absurd (true≢false (sym e ∙ le-ltb (l .x + 1) (a .w) last)); none = λ e. v .ensures .1; given = v .ensures .0 } in
+    let q = turned (a .w) (a .y) (a .before) (s .pre .0 .1 .0) _ (unit s) (beside s) (l .x) (l .inv .1) (l .inv .0) (on k .0) (on k .1) (l .inv .3) (l .inv .4) g (t .ensures .0) (t .ensures .1) in
+    let e : l .x + 1 ≡ a .w = omega (arith, last, l .inv .1) in
+    simp (toZ-ofZ, s .fits .o) at (passing-end (a .w) true (a .y) (a .before) _ (rw e at (q .0)))
 
 pub from-three-spec : {M : Type 1} → statement M
 from-three-spec =
@@ -126,14 +153,21 @@ from-three-spec =
     (λ c. search needs)
     (λ c κs. search needs)
     (λ c κs. search needs)
+    ahead-requires
     loop-holds
     (λ c. search needs)
-    (λ c κs. search needs)
+    (λ c. search needs)
+    (λ c. search needs)
+    ahead-requires-2
     (λ c. search needs)
     (λ c. search needs)
     three-requires
     (λ c. search needs)
     (λ c. search needs)
     loop-again
+    (λ c. search needs)
+    (λ c. search needs)
+    (λ c κs. search needs)
+    three-requires-2
     (λ c. search needs)
     returns)

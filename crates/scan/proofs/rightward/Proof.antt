@@ -1,46 +1,65 @@
--- `scan::rightward` meets its contract. The invariant: map and flag are what x steps make of those at entry, and `last` is the
--- vector at pixel x.
+-- `scan::rightward` meets its contract. The invariant: the map is what x steps make of the one at entry, its vectors end on the sheet, and `last` is the vector
+-- at pixel x.
 -- Assumes nothing.
 use mathlib.Core.Path.{_≡_, refl, _∙_}
-use Prim.Native.Nat.{ℕ, _+_, _-_, _≤_}
+use mathlib.Core.List.{List}
+use Prim.Native.Nat.{ℕ, _+_, _-_, _≤_, _<_}
 use native.Mathlib.Nat.{add-zero}
 use native.Mathlib.Omega.{arith}
-use lib.IntN.{pos, negsuc}
+use lib.IntN.{ℤ, pos, negsuc}
 use lib.ListN.{length}
 use borrow.Author.Needs.{needs}
 use Rattle.raster.specs.Loop.{ascend}
 use Rattle.raster.specs.LoopLaws.{up-turn}
 use Rattle.raster.specs.Pixels.{index}
-use Rattle.candidate.specs.Candidate.{State, state, relaxFlagged}
+use Rattle.candidate.specs.Candidate.{relax}
+use Rattle.candidate.specs.OnSheet.{OnSheet}
 use Rattle.candidate.specs.Holding.{AtPixel}
-use Rattle.candidate.proofs.Neighbours.{at-pixel-offer}
+use Rattle.candidate.proofs.OnCopper.{on-sheet-later, row-on-sheet}
+use Rattle.candidate.proofs.Held.{given-held, held-relax}
 use Rattle.scan.specs.Scan.{rightward}
+use Rattle.scan.proofs.Progress.{next}
+use Rattle.scan.proofs.Sweeps.{to-right}
 use Rattle.scan.proofs.rightward.Statement.{statement}
 use Rattle.scan.proofs.rightward.Tie as tie
 
-abbrev step : (w y x : ℕ) → State → State
-step w y x = relaxFlagged (index w (x + 1) y) (index w x y) (negsuc 0) (pos 0)
+abbrev step : (w y x : ℕ) → List ℤ → List ℤ
+step w y x = relax (index w (x + 1) y) (index w x y) (negsuc 0) (pos 0)
 
 abbrev Inv-loop : tie.InvT-loop
-Inv-loop map₀ w y over base last₀ x₀ map last x =
-    (state map (last .over) ≡ ascend (step w y) x (state map₀ over))
-    × (x ≤ w - 1) × (length map ≡ length map₀) × AtPixel last map (index w x y)
+Inv-loop map₀ w y base last₀ x₀ map last x =
+    (map ≡ ascend (step w y) x map₀) × (x ≤ w - 1) × (length map ≡ length map₀) × AtPixel last map (index w x y) × OnSheet w map
 
 abbrev μ-loop : tie.MeasureT-loop
-μ-loop map₀ w y over base last₀ x₀ map last x = w - x
+μ-loop map₀ w y base last₀ x₀ map last x = w - x
 
 loop-holds : tie.Need-loop-holds Inv-loop μ-loop
 unfolding ascend
-loop-holds c = (rw (c .read .ensures .1), omega arith, refl, rw add-zero (c .read .ensures .0))
+loop-holds c = (refl, omega arith, refl, rw add-zero (c .read .ensures), c .before .before .pre .1)
+
+-- the row is one of the sheet
+on : (c : tie.In-loop Inv-loop μ-loop) → let s = c .before .before .before .before in s .args .y < c .before .loop .inv .4 .height
+on c = let s = c .before .before .before .before in row-on-sheet (c .before .loop .inv .4) (s .args .y) (s .pre .0 .0) (omega arith)
 
 relax-requires : tie.Need-relax-requires Inv-loop μ-loop
-relax-requires c κs = (search needs, (c .before .before .loop .inv .3 .sized, omega arith))
+relax-requires c κs =
+    let i = c .before in
+    let l = i .before .loop in
+    (search needs, (given-held (l .inv .4) (l .x) (i .before .before .before .before .args .y) (omega arith) (on i) (l .inv .3), omega arith))
 
 loop-again : tie.Need-loop-again Inv-loop μ-loop
 loop-again c =
-    let l = c .before .before .before .before .loop in
     let r = c .before .relax in
-    (up-turn _ _ _ (r .ensures .0 ∙ at-pixel-offer _ _ _ _ (state (l .map) (l .last .over)) (l .inv .3 .dx) (l .inv .3 .dy)) (l .inv .0), omega arith, r .kept .0 ∙ l .inv .2, r .ensures .1)
+    let i = c .before .before .before in
+    let l = i .before .loop in
+    let a = i .before .before .before .before .args in
+    let e = r .ensures .0 ∙ held-relax (l .inv .4) (l .x) (a .y) (omega arith) (on i) (l .inv .3) (index (a .w) (l .x + 1) (a .y)) (negsuc 0) in (
+      up-turn _ _ _ e (l .inv .0),
+      omega arith,
+      r .kept .0 ∙ l .inv .2,
+      r .ensures .1,
+      rw e (on-sheet-later (l .inv .4) (next (to-right (a .w) (l .inv .4 .height) (a .y) (on i) (l .x) (omega arith)))),
+    )
 
 returns : tie.Need-returns Inv-loop μ-loop
 unfolding rightward

@@ -1,6 +1,7 @@
--- `scan::scan_up` meets its contract. The invariant: what the y rows left make of map and flag is the whole.
+-- `scan::scan_up` meets its contract. The invariant: what the y rows left make of the map is the whole, its vectors end on the sheet, and row y, if it is one, is
+-- labelled throughout or not at all.
 -- Assumes nothing.
-use mathlib.Core.Path.{_≡_, refl, _∙_}
+use mathlib.Core.Path.{_≡_, refl, ap, _∙_}
 use Prim.Native.Nat.{_+_, _*_, _-_, _<_, _≤_}
 use native.Mathlib.Nat.{mul-le-mul-right}
 use native.Mathlib.Omega.{arith}
@@ -8,36 +9,84 @@ use lib.ListN.{length}
 use borrow.Author.Needs.{needs}
 use Rattle.raster.specs.Loop.{descend}
 use Rattle.raster.specs.LoopLaws.{down-turn}
-use Rattle.candidate.specs.Candidate.{state}
-use Rattle.scan.specs.Scan.{upRow}
+use Rattle.candidate.specs.OnSheet.{OnSheet}
+use Rattle.candidate.proofs.OnCopper.{on-sheet-later, row-on-sheet}
+use Rattle.scan.specs.Scan.{rightward, leftward, fromBelow, upRow}
+use Rattle.scan.specs.Rows.{Level}
+use Rattle.scan.proofs.Sweeps.{rightward-moment, leftward-moment}
+use Rattle.scan.proofs.Level.{level}
+use Rattle.scan.proofs.Rows.{below-moment}
 use Rattle.scan.proofs.scan_up.Statement.{statement}
 use Rattle.scan.proofs.scan_up.Tie as tie
 
 abbrev Inv-loop : tie.InvT-loop
-Inv-loop map₀ w h corners over met₀ y₀ map met y =
-    (descend (upRow w corners h) y (state map met) ≡ descend (upRow w corners h) h (state map₀ over)) × (y ≤ h) × (length map ≡ length map₀)
+Inv-loop map₀ w h corners y₀ map y =
+    (descend (upRow w corners h) y map ≡ descend (upRow w corners h) h map₀) × (y ≤ h) × (length map ≡ length map₀) × OnSheet w map × (y < h → Level w y map)
 
 abbrev μ-loop : tie.MeasureT-loop
-μ-loop map₀ w h corners over met₀ y₀ map met y = y
-
--- row y - 1 lies in the map
-row : (c : tie.In-loop Inv-loop μ-loop) → let a = c .before .before .args in 2 * ((c .before .loop .y - 1) * a .w + a .w) ≤ length (a .map .now)
-row c =
-    let a = c .before .before .args in
-    let below : c .before .loop .y - 1 < a .h = omega arith in
-    omega (arith, mul-le-mul-right (a .w) below)
+μ-loop map₀ w h corners y₀ map y = y
 
 loop-holds : tie.Need-loop-holds Inv-loop μ-loop
-loop-holds c = (refl, omega arith, refl)
+loop-holds c = (refl, omega arith, refl, c .pre .1, λ l. absurd (omega arith))
+
+-- all rows lie on the sheet, and row y − 1 lies in the map
+all : (c : tie.In-loop Inv-loop μ-loop) → c .before .before .args .h ≤ c .before .loop .inv .3 .height
+all c =
+    let s = c .before .before in
+    let sheet = c .before .loop .inv .3 in
+    let k : s .args .h - 1 + 1 ≤ s .args .h = omega (arith, c .loop-test .taken, c .before .loop .inv .1) in
+    let l = row-on-sheet sheet (s .args .h - 1) (s .pre .0 .0) (omega (arith, mul-le-mul-right (s .args .w) k, s .pre .0 .1, c .before .loop .inv .2)) in
+    omega arith
+
+row : (c : tie.In-loop Inv-loop μ-loop) → let a = c .before .before .args in 2 * ((c .before .loop .y - 1) * a .w + a .w) ≤ length (c .before .loop .map)
+row c =
+    let s = c .before .before in
+    let below : c .before .loop .y - 1 < s .args .h = omega (arith, c .loop-test .taken, c .before .loop .inv .1) in
+    omega (arith, mul-le-mul-right (s .args .w) below, s .pre .0 .1, c .before .loop .inv .2)
+
+on : (c : tie.In-loop Inv-loop μ-loop) → c .before .loop .y - 1 < c .before .loop .inv .3 .height
+on c = omega (arith, all c, c .loop-test .taken, c .before .loop .inv .1)
+
+-- after the row from below, and after its sweep to the right
+below : (c : tie.In-loop Inv-loop μ-loop) → let a = c .before .before .args in OnSheet (a .w) (fromBelow (a .w) (a .corners) (a .h) (c .before .loop .y - 1) (c .before .loop .map))
+below c =
+    let l = c .before .loop in
+    let a = c .before .before .args in
+    on-sheet-later (l .inv .3) (below-moment (a .w) (l .inv .3 .height) (a .corners) (l .y - 1) (on c) (l .map) (a .h) (all c))
+
+swept : (c : tie.In-loop Inv-loop μ-loop) → let a = c .before .before .args in
+    OnSheet (a .w) (rightward (a .w) (c .before .loop .y - 1) (fromBelow (a .w) (a .corners) (a .h) (c .before .loop .y - 1) (c .before .loop .map)))
+unfolding below
+swept c = let l = c .before .loop in on-sheet-later (below c) (rightward-moment (c .before .before .args .w) (l .inv .3 .height) (l .y - 1) (on c) _)
+
+from-below-requires : tie.Need-from-below-requires Inv-loop μ-loop
+from-below-requires c κs =
+    let i = c .before in
+    let l = i .before .loop in
+    let s = i .before .before in
+    let n : l .y - 1 + 1 ≡ l .y = omega (arith, i .loop-test .taken) in
+    ((s .pre .0 .0, (omega (arith, i .loop-test .taken, l .inv .1), omega (arith, s .pre .0 .1, l .inv .2))), (l .inv .3, (λ m. rw n (l .inv .4 (omega (arith, m, n))))))
+
+leftward-requires : tie.Need-leftward-requires Inv-loop μ-loop
+leftward-requires c κs =
+    let f = c .before .before .from-below in
+    let i = c .before .before .before .before in
+    ((i .before .before .pre .0 .0, omega (arith, row i, f .kept .0)), rw (f .ensures) (swept i))
 
 loop-again : tie.Need-loop-again Inv-loop μ-loop
+unfolding below swept
 loop-again c =
-    let r = c .before .before .before .before in
-    let f = r .before .before .before in
-    let l = f .before .before .before in (
-      down-turn _ _ _ (omega arith) (rw (c .before .leftward .ensures, r .rightward .ensures, f .from-below .ensures)) (l .loop .inv .0),
-      omega arith,
-      c .before .leftward .kept .0 ∙ r .rightward .kept .0 ∙ f .from-below .kept .0 ∙ l .loop .inv .2,
+    let t = c .before .leftward in
+    let f = c .before .before .before .before .from-below in
+    let i = c .before .before .before .before .before .before in
+    let l = i .before .loop in
+    let a = i .before .before .args in
+    let e = t .ensures ∙ ap (leftward (a .w) (l .y - 1)) (f .ensures) in (
+      down-turn _ _ _ (i .loop-test .taken) e (l .inv .0),
+      omega (arith, l .inv .1),
+      t .kept .0 ∙ f .kept .0 ∙ l .inv .2,
+      rw e (on-sheet-later (swept i) (leftward-moment (a .w) (l .inv .3 .height) (l .y - 1) (on i) _)),
+      (λ _. rw e (level (l .inv .3 .wide) (l .y - 1) (on i) (below i .ends))),
     )
 
 returns : tie.Need-returns Inv-loop μ-loop
@@ -55,9 +104,8 @@ scan-up-spec =
     μ-loop
     loop-holds
     (λ c. search needs)
-    (λ c κs. search needs)
-    (λ c κs. omega (arith, row (c .before .before .before .before)))
-    (λ c κs. omega (arith, row (c .before .before .before .before .before .before .before)))
+    from-below-requires
+    leftward-requires
     (λ c. search needs)
     loop-again
     (λ c. search needs)

@@ -1,4 +1,4 @@
--- `session::refusals::build_refusal` meets its contract: each return rewrites by the tests that led there.
+-- `session::refusals::build_answer` meets its contract: each return rewrites by the tests that led there.
 -- Assumes nothing.
 use mathlib.Core.Path.{_≡_}
 use mathlib.Core.Bool.{false, not, _&&_, _||_}
@@ -6,12 +6,12 @@ use lib.Dec.{eqb}
 use borrow.Author.Needs.{needs}
 use Rattle.raster.specs.Refusal.{firstOf}
 use Rattle.session.specs.State.{active}
-use Rattle.session.specs.Refusals.{notSheet, notMap, shortScratch, buildRows}
-use Rattle.session.proofs.refusals.build_refusal.Statement.{statement}
-use Rattle.session.proofs.refusals.build_refusal.Tie as tie
+use Rattle.session.specs.Refusals.{notSheet, notMap, shortScratch, buildTable}
+use Rattle.session.proofs.refusals.build_answer.Statement.{statement}
+use Rattle.session.proofs.refusals.build_answer.Tie as tie
 
 returns : tie.Need-returns
-unfolding buildRows firstOf
+unfolding buildTable firstOf
 returns c = simp (rw (c .before .is-active .ensures) at (c .if1 .taken))
 
 -- past the first test
@@ -19,7 +19,7 @@ fine : (c : tie.Else1) → not (active (c .before .before .before .args .s)) ≡
 fine c = rw (c .before .is-active .ensures) at (c .if1 .left)
 
 returns-2 : tie.Need-returns-2
-unfolding buildRows firstOf
+unfolding buildTable firstOf
 returns-2 c =
     let m = c .before .before in
     let p = m .before in
@@ -34,19 +34,19 @@ sized c =
     rw (p .before .scratch-need .ensures, p .pixels-of .ensures, m .is-map .ensures) at (c .if2 .left)
 
 returns-3 : tie.Need-returns-3
-unfolding buildRows firstOf
+unfolding buildTable firstOf
 returns-3 c =
     let e = c .before in
     simp (fine (e .before .before .before .before .before), sized e, rw (e .before .is-engine .ensures) at (c .if3 .taken))
 
 returns-4 : tie.Need-returns-4
-unfolding buildRows firstOf
+unfolding buildTable firstOf
 returns-4 c =
     let e = c .before in
     simp (fine (e .before .before .before .before .before), sized e, rw (e .before .is-engine .ensures) at (c .if3 .left))
 
-pub build-refusal-spec : {M : Type 1} → statement M
-build-refusal-spec =
+pub build-answer-spec : {M : Type 1} → statement M
+build-answer-spec =
     tie.close
     (tie.spec
     (λ c κs. search needs)
