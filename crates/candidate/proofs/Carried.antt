@@ -20,7 +20,7 @@ near-short (negsuc n) h = omega arith
 near-fits : (z : ℤ) → natAbs z ≤ maxSide → SFits w32 z
 near-fits z h = wide-fits z (omega arith)
 
--- the size of a vector that is near is one that there are
+-- a vector with components up to 2,048 has a smaller size than none
 pub near-size : (x y : ℤ) → natAbs x ≤ maxSide → natAbs y ≤ maxSide → size x y < noSize
 unfolding size
 near-size x y a b = omega (arith, mul-le-mul a a, mul-le-mul b b)

@@ -142,7 +142,8 @@ pub fn nothing() -> SizedVector
     }
 }
 
-// Pixel `at` is offered the candidates of its neighbour in the row before, which is `mid` after the step to this row, and of its left neighbour.
+// Pixel `at` is offered two candidates: that of its neighbour in the row before, which is `mid` after the step to this row, then that of the left neighbour in its
+// own row, which holds `last`.
 pub fn straight(map: &mut [i16], at: usize, mid: SizedVector, last: SizedVector) -> SizedVector
     requires { ⌜ Inside at (now map) ⌝ }
     requires { ⌜ Given mid × Given last ⌝ }
@@ -156,7 +157,8 @@ pub fn straight(map: &mut [i16], at: usize, mid: SizedVector, last: SizedVector)
     b
 }
 
-// Pixel `at` is offered the candidates of its left, middle and right neighbour in the row before, and of its left neighbour.
+// Pixel `at` is offered four candidates: those of its left, middle and right neighbour in the row before, after the step to this row, then that of the left
+// neighbour in its own row, which holds `last`.
 pub fn three(
     map: &mut [i16],
     at: usize,
