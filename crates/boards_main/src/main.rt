@@ -1,7 +1,8 @@
-// Shows what the library makes of small sheets: the maps by both scans, of document 01's 4 × 4 board and of sheets of one row and one column; the exact maps
-// of its boards M1, M5 and M6, and of a sheet of 40 × 30 whose three copper pixels stand like an arrow-head: there 8SED is wrong at pixel (3, 10), where it
-// finds the size 485 and the true one is 481; sheets with the skeleton of their exact maps and the sheet rebuilt from it, which is the bare pixels again:
-// M7, and a board of 24 × 9 with two pads, a track between them and a via; and the README's example.
+// Shows what the library makes of small sheets: the maps by both scans, of document 01's 4 × 4 board, of document 02's 2 × 2 board, where at pixel (1, 1) two
+// vectors have one size, and of sheets of one row and one column; the exact maps of document 01's boards M1, M5 and M6; both maps of a sheet of 14 × 8 whose
+// three copper pixels stand like an arrow-head: there 8SED is wrong at pixel (0, 0), where it finds the size 170 and the true one is 169; sheets with the skeleton
+// of their exact maps and the sheet rebuilt from it, which is the bare pixels again: M7, and a board of 24 × 9 with two pads, a track between them and a via; and
+// the README's example.
 ghost use mathlib.Core.Path.{_≡_};
 ghost use Prim.Native.Nat.{_+_, _*_, _≤_, _<_};
 ghost use lib.ListN.{length};
@@ -124,6 +125,13 @@ fn scanned_board() {
     show_scan(&sheet, &mut map, 4, 4, true);
 }
 
+fn scanned_corner() {
+    let sheet = [0, 1, 1, 0];
+    let mut map = [0i16; 8];
+    show_scan(&sheet, &mut map, 2, 2, false);
+    show_scan(&sheet, &mut map, 2, 2, true);
+}
+
 fn scanned_lines() {
     let sheet = [1, 0, 0];
     let mut map = [0i16; 6];
@@ -166,13 +174,14 @@ fn exact_row(first: u8, last: u8) {
 }
 
 fn arrow_head() {
-    let mut sheet = [0u8; 1200];
-    sheet[980] = 1;
-    sheet[385] = 1;
-    sheet[783] = 1;
-    let mut map = [0i16; 2400];
-    let mut scratch = [0i16; 1200];
-    show_exact(&sheet, &mut map, &mut scratch, 40, 30);
+    let mut sheet = [0u8; 112];
+    sheet[27] = 1;
+    sheet[82] = 1;
+    sheet[109] = 1;
+    let mut map = [0i16; 224];
+    let mut scratch = [0i16; 112];
+    show_scan(&sheet, &mut map, 14, 8, true);
+    show_exact(&sheet, &mut map, &mut scratch, 14, 8);
 }
 
 // ---- skeleton and rebuild
@@ -252,6 +261,7 @@ fn readme() {
 
 fn main() {
     scanned_board();
+    scanned_corner();
     scanned_lines();
     scanned_bare();
     exact_board();

@@ -15,6 +15,10 @@ use Rattle.raster.specs.Map.{dxAt, dyAt, unlabelledAt, put}
 use Rattle.raster.specs.MapLaws.{put-dx-other, put-dy-other}
 use Rattle.candidate.specs.Candidate.{offer, relax}
 
+-- pixel p has in n the vector that it has in m
+abbrev pub Unchanged : (m n : List ℤ) (p : ℕ) → Type 0
+Unchanged m n p = (dxAt n p ≡ dxAt m p) × (dyAt n p ≡ dyAt m p)
+
 -- what holds of the map as it was, and with the vector written where it replaces, holds after the offer
 pub offer-ind : (cx cy : ℤ) (at : ℕ) (m : List ℤ) (P : List ℤ → Type 0) → P m
     → (replaces (dxAt m at) (dyAt m at) cx cy ≡ true → P (put at cx cy m)) → P (offer cx cy at m)
@@ -31,13 +35,13 @@ module _ (at from : ℕ) (ox oy : ℤ) (m : List ℤ) where
       cond-ind P (unlabelledAt m from) (λ u. same) (λ u. offer-ind (dxAt m from +ℤ ox) (dyAt m from +ℤ oy) at m P same (new u))
 
   -- other pixels stay as they were
-  pub elsewhere : (q : ℕ) → q ≢ at → (dxAt (relax at from ox oy m) q ≡ dxAt m q) × (dyAt (relax at from ox oy m) q ≡ dyAt m q)
+  pub elsewhere : (q : ℕ) → q ≢ at → Unchanged m (relax at from ox oy m) q
   elsewhere q n =
-      relax-ind (λ k. (dxAt k q ≡ dxAt m q) × (dyAt k q ≡ dyAt m q)) (refl, refl)
+      relax-ind (λ k. Unchanged m k q) (refl, refl)
       (λ u r. (put-dx-other at _ _ m q n, put-dy-other at _ _ m q n))
 
   -- also by a candidate that is made or left out
-  pub elsewhere-if : (t : Bool) (q : ℕ) → (t ≡ true → q ≢ at) → let n = cond t (relax at from ox oy m) m in (dxAt n q ≡ dxAt m q) × (dyAt n q ≡ dyAt m q)
+  pub elsewhere-if : (t : Bool) (q : ℕ) → (t ≡ true → q ≢ at) → Unchanged m (cond t (relax at from ox oy m) m) q
   elsewhere-if true q n = elsewhere q (n refl)
   elsewhere-if false q n = (refl, refl)
 

@@ -12,31 +12,32 @@ use lib.ListN.{set}
 use lib.Seq.{set-getD, set-set, set-comm}
 use borrow.Author.Tests.{le-ltb}
 use Rattle.raster.specs.Tests.{and-left}
-use Rattle.raster.specs.Vector.{UnitStep, size, replaces}
-use Rattle.raster.specs.VectorLaws.{near-replaces}
+use Rattle.raster.specs.Vector.{UnitStep, replaces}
 use Rattle.raster.specs.Map.{Inside, dxAt, dyAt, put}
 use Rattle.raster.specs.MapLaws.{put-dx, put-dy}
-use Rattle.candidate.specs.declared.SizedVector.{SizedVector}
+use Rattle.candidate.specs.declared.KeyedVector.{KeyedVector}
 use Rattle.candidate.specs.Candidate.{offer}
-use Rattle.candidate.specs.Holding.{Sized, AtPixel, noSize, isGiven, Given, offerGiven, wins, Offered}
-use Rattle.candidate.proofs.Carried.{near-short, most-size, side-near}
+use Rattle.candidate.specs.Key.{key, noKey}
+use Rattle.candidate.specs.KeyLaws.{key-replaces}
+use Rattle.candidate.specs.Holding.{Keyed, AtPixel, isGiven, Given, offerGiven, wins, Offered}
+use Rattle.candidate.proofs.Carried.{near-short, most-key, side-near}
 
--- ---- of vectors: s is the candidate's size, or too large if there is none
+-- ---- of vectors: k is the candidate's key, or too large if there is none
 
-module _ (d c : SizedVector) (o : ℤ) (a : Sized d) (g : Given c) (u : UnitStep o) (s : ℕ) (is : isGiven c ≡ true → s ≡ size (c .dx +ℤ o) (c .dy)) (none : isGiven c ≡ false → noSize ≤ s) where
-  -- so sizes alone say what replaces what
-  wins-is : wins d c o ≡ ltb s (d .size)
+module _ (d c : KeyedVector) (o : ℤ) (a : Keyed d) (g : Given c) (u : UnitStep o) (k : ℕ) (is : isGiven c ≡ true → k ≡ key (c .dx +ℤ o) (c .dy)) (none : isGiven c ≡ false → noKey ≤ k) where
+  -- so keys alone say what replaces what
+  wins-is : wins d c o ≡ ltb k (d .key)
   wins-is = go (isGiven c) refl
     where
-      go : (t : Bool) → isGiven c ≡ t → t && replaces (d .dx) (d .dy) (c .dx +ℤ o) (c .dy) ≡ ltb s (d .size)
-      go true e = rw (is e, a .own) (sym (near-replaces (d .dx) (d .dy) (c .dx +ℤ o) (c .dy) (side-near g o u) (g .near-dy)))
-      go false e = sym (le-ltb s (d .size) (omega (arith, none e, most-size a)))
+      go : (t : Bool) → isGiven c ≡ t → t && replaces (d .dx) (d .dy) (c .dx +ℤ o) (c .dy) ≡ ltb k (d .key)
+      go true e = rw (is e, a .own) (sym (key-replaces (d .dx) (d .dy) (c .dx +ℤ o) (c .dy) (side-near g o u) (g .near-dy)))
+      go false e = sym (le-ltb k (d .key) (omega (arith, none e, most-key a)))
 
-  pub offered : {r : SizedVector} (t : Bool) → t ≡ ltb s (d .size)
-      → r .dx ≡ cond t (c .dx +ℤ o) (d .dx) → r .dy ≡ cond t (c .dy) (d .dy) → r .size ≡ cond t s (d .size) → Offered d c o r
-  offered {r} t e x y z = record { dx = rw (wins-is, ← e) x; dy = rw (wins-is, ← e) y; sized = go t (wins-is ∙ sym e) x y z }
+  pub offered : {r : KeyedVector} (t : Bool) → t ≡ ltb k (d .key)
+      → r .dx ≡ cond t (c .dx +ℤ o) (d .dx) → r .dy ≡ cond t (c .dy) (d .dy) → r .key ≡ cond t k (d .key) → Offered d c o r
+  offered {r} t e x y z = record { dx = rw (wins-is, ← e) x; dy = rw (wins-is, ← e) y; keyed = go t (wins-is ∙ sym e) x y z }
     where
-      go : (t : Bool) → wins d c o ≡ t → r .dx ≡ cond t (c .dx +ℤ o) (d .dx) → r .dy ≡ cond t (c .dy) (d .dy) → r .size ≡ cond t s (d .size) → Sized r
+      go : (t : Bool) → wins d c o ≡ t → r .dx ≡ cond t (c .dx +ℤ o) (d .dx) → r .dy ≡ cond t (c .dy) (d .dy) → r .key ≡ cond t k (d .key) → Keyed r
       go true w x y z = record {
         short-dx = rw x (near-short (c .dx +ℤ o) (side-near g o u));
         short-dy = rw y (near-short (c .dy) (g .near-dy));
@@ -62,18 +63,18 @@ put-put p x y a b m =
 
 module _ (at : ℕ) (m : List ℤ) where
   -- n is the map m with r at the pixel
-  pub record Written (r : SizedVector) (n : List ℤ) : Type 0 where
+  pub record Written (r : KeyedVector) (n : List ℤ) : Type 0 where
     pub made : n ≡ put at (r .dx) (r .dy) m
-    pub sized : Sized r
+    pub keyed : Keyed r
 
-  pub written-first : {d : SizedVector} → AtPixel d m at → Written d m
-  written-first h = record { made = put-kept at m (h .dx) (h .dy); sized = h .sized }
+  pub written-first : {d : KeyedVector} → AtPixel d m at → Written d m
+  written-first h = record { made = put-kept at m (h .dx) (h .dy); keyed = h .keyed }
 
-  pub written-next : {d c r : SizedVector} {n : List ℤ} (o : ℤ) → Inside at m → Written d n → Offered d c o r → Written r (offerGiven c o at n)
+  pub written-next : {d c r : KeyedVector} {n : List ℤ} (o : ℤ) → Inside at m → Written d n → Offered d c o r → Written r (offerGiven c o at n)
   unfolding offer
   written-next {d} {c} {r} {n} o i v e = record {
     made = rw (v .made, put-dx at (d .dx) (d .dy) m i, put-dy at (d .dx) (d .dy) m i, e .dx, e .dy) (go (isGiven c) (replaces (d .dx) (d .dy) (c .dx +ℤ o) (c .dy)));
-    sized = e .sized;
+    keyed = e .keyed;
   }
     where
       go : (t u : Bool) → cond t (cond u (put at (c .dx +ℤ o) (c .dy) (put at (d .dx) (d .dy) m)) (put at (d .dx) (d .dy) m)) (put at (d .dx) (d .dy) m)
@@ -83,6 +84,6 @@ module _ (at : ℕ) (m : List ℤ) where
       go false u = refl
 
   -- r, written at its pixel, is what the candidates leave, and stands there
-  pub written-last : {r : SizedVector} {n k : List ℤ} → Inside at m → Written r n → k ≡ put at (r .dx) (r .dy) m → (k ≡ n) × AtPixel r k at
+  pub written-last : {r : KeyedVector} {n k : List ℤ} → Inside at m → Written r n → k ≡ put at (r .dx) (r .dy) m → (k ≡ n) × AtPixel r k at
   written-last {r} i v e =
-      (e ∙ sym (v .made), rw e (record { dx = sym (put-dx at (r .dx) (r .dy) m i); dy = sym (put-dy at (r .dx) (r .dy) m i); sized = v .sized }))
+      (e ∙ sym (v .made), rw e (record { dx = sym (put-dx at (r .dx) (r .dy) m i); dy = sym (put-dy at (r .dx) (r .dy) m i); keyed = v .keyed }))

@@ -1,7 +1,8 @@
-// What a pixel holds after the candidates of its neighbours (document 01, "Engines"): its vector, and the size of that.
+// What a pixel holds after the candidates of its neighbours (document 01, "Engines", and document 02, C-16): its vector, and the key of that, 2³² × its size
+// and dy². By it one test of two numbers tells whether a candidate replaces what is there.
 //
-// A candidate's size comes from its neighbour's: a step o adds 2vo + o² to the square of v, so that nothing is multiplied out twice. All candidates that a
-// pixel is offered in a pass are looked at together, with one read and one write of the pixel.
+// A candidate's key comes from its neighbour's: a step o to the side adds 2vo + o² to the square of v and leaves dy², so that nothing is multiplied out
+// twice. All candidates that a pixel is offered in a pass are looked at together, with one read and one write of the pixel.
 //
 // No number is tested for its range: the vector of a neighbour ends on the sheet, so its components are below 2,048 and one step more fits 16 bits.
 ghost use mathlib.Core.Path.{_≡_};
@@ -9,17 +10,38 @@ ghost use mathlib.Core.Bool.{true, false, cond};
 ghost use Prim.Native.Nat.{_+_, _≤_, _<_};
 ghost use lib.IntN.{pos, negsuc, natAbs, _+ℤ_};
 ghost use Rattle.raster.specs.Limits.{maxSide};
-ghost use Rattle.raster.specs.Vector.{UnitStep, size};
+ghost use Rattle.raster.specs.Vector.{Wide, UnitStep};
 ghost use Rattle.raster.specs.Map.{Inside, dxAt, dyAt};
-ghost use Rattle.candidate.specs.Holding.{square, Sized, AtPixel, noSize, isGiven, Given, Ahead, offerGiven, Offered};
+ghost use Rattle.candidate.specs.Key.{square, key, noKey};
+ghost use Rattle.candidate.specs.Holding.{Keyed, AtPixel, isGiven, Given, Ahead, offerGiven, Offered};
 
 // ---- one candidate
 
-// A vector with its size. Where the size is 2³¹, which no vector on a sheet has, there is none.
-pub struct SizedVector {
+// What a size counts in a key, 2³²: the square of dy is less.
+const UNIT: u64 = 4294967296;
+
+// The key that says that there is no vector, 2⁶³ + 2³⁰: that of an unlabelled pixel's numbers.
+const NO_KEY: u64 = 9223372037928517632;
+
+// A limit below it that every vector on a sheet keeps, 2⁶³: a test by it looks at one bit.
+const KEY_LIMIT: u64 = 9223372036854775808;
+
+// A vector with its key, or none with the key that says so.
+pub struct KeyedVector {
     pub dx: i32,
     pub dy: i32,
-    pub size: u32,
+    pub key: u64,
+}
+
+// The key of the vector (dx, dy).
+fn key_of(dx: i32, dy: i32) -> u64
+    requires { ⌜ Wide dx × Wide dy ⌝ }
+    ensures { λ r. ⌜ r ≡ key dx dy ⌝ }
+{
+    let x = raster::magnitude(dx);
+    let y = raster::magnitude(dy);
+    let tie = y * y;
+    (x * x + tie) as u64 * UNIT + tie as u64
 }
 
 // One of two numbers.
@@ -32,8 +54,8 @@ fn pick(first: bool, a: i32, b: i32) -> i32
     b
 }
 
-// One of two sizes.
-fn pick_size(first: bool, a: u32, b: u32) -> u32
+// One of two keys.
+fn pick_key(first: bool, a: u64, b: u64) -> u64
     ensures { λ r. ⌜ r ≡ cond first a b ⌝ }
 {
     if first {
@@ -43,73 +65,86 @@ fn pick_size(first: bool, a: u32, b: u32) -> u32
 }
 
 // What a step o adds to the square of the component v: 2vo + o², here with 4,096 more, so that it is not negative.
-fn growth(v: i32, o: i32) -> u32
+fn growth(v: i32, o: i32) -> u64
     requires { ⌜ (natAbs v ≤ 2048) × UnitStep o ⌝ }
     ensures { λ r. ⌜ (r + square v ≡ 4096 + square (v +ℤ o)) × (r ≤ 8193) ⌝ }
 {
+    let twice = (v + v) as i64;
     if o < 0 {
-        return (4097 - (v + v)) as u32;
+        return (4097 - twice) as u64;
     }
     if 0 < o {
-        return (4097 + (v + v)) as u32;
+        return (4097 + twice) as u64;
     }
     4096
 }
 
-// The size of the candidate that c and the step o to the side give, from the size of c.
-fn size_after(c: SizedVector, o: i32) -> u32
+// The key of the candidate that c and the step o to the side give, from the key of c.
+fn key_after(c: KeyedVector, o: i32) -> u64
     requires { ⌜ Given c × UnitStep o ⌝ }
-    ensures candidate { λ r. ⌜ (isGiven c ≡ true → r ≡ size (c .dx +ℤ o) (c .dy)) ⌝ }
-    ensures none { λ r. ⌜ (isGiven c ≡ false → noSize ≤ r) ⌝ }
+    ensures candidate { λ r. ⌜ (isGiven c ≡ true → r ≡ key (c .dx +ℤ o) (c .dy)) ⌝ }
+    ensures none { λ r. ⌜ (isGiven c ≡ false → noKey ≤ r) ⌝ }
 {
-    c.size + growth(c.dx, o) - 4096
+    c.key + growth(c.dx, o) * UNIT - 4096 * UNIT
 }
 
 // What a pixel that holds d holds after the candidate that c and the step o to the side give.
-fn better(d: SizedVector, c: SizedVector, o: i32) -> SizedVector
-    requires { ⌜ (Sized d × Given c) × UnitStep o ⌝ }
+fn better(d: KeyedVector, c: KeyedVector, o: i32) -> KeyedVector
+    requires { ⌜ (Keyed d × Given c) × UnitStep o ⌝ }
     ensures { λ r. ⌜ Offered d c o r ⌝ }
 {
-    let size = size_after(c, o);
-    let takes = size < d.size;
-    SizedVector {
+    let key = key_after(c, o);
+    let takes = key < d.key;
+    KeyedVector {
         dx: pick(takes, c.dx + o, d.dx),
         dy: pick(takes, c.dy, d.dy),
-        size: pick_size(takes, size, d.size),
+        key: pick_key(takes, key, d.key),
     }
 }
 
 // What pixel p holds.
-pub fn read(map: &[i16], p: usize) -> SizedVector
+pub fn read(map: &[i16], p: usize) -> KeyedVector
     requires { ⌜ Inside p (now map) ⌝ }
     ensures { λ r. ⌜ AtPixel r (now (map .entry)) p ⌝ }
 {
     let dx = raster::dx_at(map, p);
     let dy = raster::dy_at(map, p);
-    SizedVector {
+    KeyedVector {
         dx,
         dy,
-        size: raster::size_of(dx, dy),
+        key: key_of(dx, dy),
     }
 }
 
-// Pixel `at` is offered the candidate of a neighbour in its row that holds n and stands at (o, 0). Along a row most candidates go one way for long,
-// so that here a branch is faster than a choice of numbers.
-pub fn relax(map: &mut [i16], at: usize, n: SizedVector, o: i32) -> SizedVector
-    requires { ⌜ Inside at (now map) ⌝ }
+// What pixel p holds, if its key is known.
+pub fn recall(map: &[i16], p: usize, known: u64) -> KeyedVector
+    requires { ⌜ Inside p (now map) × (known ≡ key (dxAt (now map) p) (dyAt (now map) p)) ⌝ }
+    ensures { λ r. ⌜ AtPixel r (now (map .entry)) p ⌝ }
+{
+    KeyedVector {
+        dx: raster::dx_at(map, p),
+        dy: raster::dy_at(map, p),
+        key: known,
+    }
+}
+
+// Pixel `at`, the key of which is known, is offered the candidate of a neighbour in its row that holds n and stands at (o, 0). Along a row most candidates go
+// one way for long, so that here a branch is faster than a choice of numbers.
+pub fn relax(map: &mut [i16], at: usize, known: u64, n: KeyedVector, o: i32) -> KeyedVector
+    requires { ⌜ Inside at (now map) × (known ≡ key (dxAt (now map) at) (dyAt (now map) at)) ⌝ }
     requires { ⌜ (isGiven n ≡ true → Given n) × UnitStep o ⌝ }
     ensures written { λ r. ⌜ now (map .exit) ≡ offerGiven n o at (now (map .entry)) ⌝ }
     ensures handed_on { λ r. ⌜ AtPixel r (now (map .exit)) at ⌝ }
 {
-    let d = read(map, at);
-    if 2147483648 <= n.size {
+    let d = recall(map, at, known);
+    if KEY_LIMIT <= n.key {
         return d;
     }
-    let size = size_after(n, o);
-    if size < d.size {
+    let key = key_after(n, o);
+    if key < d.key {
         let dx = n.dx + o;
         raster::put_at(map, at, dx, n.dy);
-        return SizedVector { dx, dy: n.dy, size };
+        return KeyedVector { dx, dy: n.dy, key };
     }
     d
 }
@@ -117,34 +152,34 @@ pub fn relax(map: &mut [i16], at: usize, n: SizedVector, o: i32) -> SizedVector
 // ---- from row to row: o is −1 from the row above and 1 from the row below
 
 // The vector of the labelled pixel p with the step (0, o).
-pub fn ahead(map: &[i16], p: usize, o: i32) -> SizedVector
+pub fn ahead(map: &[i16], p: usize, o: i32) -> KeyedVector
     requires { ⌜ Inside p (now map) × UnitStep o ⌝ }
     requires { ⌜ (natAbs (dxAt (now map) p) < maxSide) × (natAbs (dyAt (now map) p) < maxSide) ⌝ }
     ensures { λ r. ⌜ Ahead o r (now (map .entry)) p ⌝ }
 {
     let dx = raster::dx_at(map, p);
     let dy = raster::shifted(raster::dy_at(map, p), o);
-    SizedVector {
+    KeyedVector {
         dx,
         dy,
-        size: raster::size_of(dx, dy),
+        key: key_of(dx, dy),
     }
 }
 
 // No vector: what a neighbour gives that is not there.
-pub fn nothing() -> SizedVector
+pub fn nothing() -> KeyedVector
     ensures { λ r. ⌜ Given r × (isGiven r ≡ false) ⌝ }
 {
-    SizedVector {
+    KeyedVector {
         dx: 0,
         dy: 0,
-        size: 2147483648,
+        key: NO_KEY,
     }
 }
 
 // Pixel `at` is offered two candidates: that of its neighbour in the row before, which is `mid` after the step to this row, then that of the left neighbour in its
 // own row, which holds `last`.
-pub fn straight(map: &mut [i16], at: usize, mid: SizedVector, last: SizedVector) -> SizedVector
+pub fn straight(map: &mut [i16], at: usize, mid: KeyedVector, last: KeyedVector) -> KeyedVector
     requires { ⌜ Inside at (now map) ⌝ }
     requires { ⌜ Given mid × Given last ⌝ }
     ensures written { λ r. ⌜ now (map .exit) ≡ offerGiven last (negsuc 0) at (offerGiven mid (pos 0) at (now (map .entry))) ⌝ }
@@ -162,11 +197,11 @@ pub fn straight(map: &mut [i16], at: usize, mid: SizedVector, last: SizedVector)
 pub fn three(
     map: &mut [i16],
     at: usize,
-    left: SizedVector,
-    mid: SizedVector,
-    right: SizedVector,
-    last: SizedVector,
-) -> SizedVector
+    left: KeyedVector,
+    mid: KeyedVector,
+    right: KeyedVector,
+    last: KeyedVector,
+) -> KeyedVector
     requires { ⌜ Inside at (now map) ⌝ }
     requires { ⌜ (Given left × Given mid) × (Given right × Given last) ⌝ }
     ensures written { λ r. ⌜ now (map .exit)

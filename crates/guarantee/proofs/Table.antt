@@ -1,4 +1,4 @@
--- M1 to M9 hold, computed from the definitions.
+-- M1 to M9 and the board of C-16 hold, computed from the definitions.
 -- Assumes nothing.
 use mathlib.Core.Path.{refl}
 use Rattle.raster.specs.Distance.{gap, apart}
@@ -17,10 +17,10 @@ use Rattle.skeleton.specs.Table.{least, g}
 use Rattle.skeleton.specs.Skeleton.{takenBy, removed, skeletonOf}
 use Rattle.radius.specs.Radius.{measurable, radiusAnswer, radiusQ}
 use Rattle.cutter.specs.Gates.{passesAt}
-use Rattle.guarantee.specs.Table.{four, three, ends, Marked, m1, m2, m3, m4, m5, m6, m7, m8, m9, Says}
+use Rattle.guarantee.specs.Table.{four, three, ends, corner, Marked, m1, m2, m3, m4, m5, m6, m7, m8, m9, c16, Says}
 
 pub boards : (m : Marked) → Says m
-unfolding four three ends exactMap vectors tabulate pixels nearest ascend descend anyBelow apart gap size copperOf scanned fromRow fromThree rightward leftward seeds offer replaces put passesAt passes g least skeletonOf removed takenBy rebuilt covered radiusQ radiusAnswer measurable firstOf
+unfolding four three ends corner exactMap vectors tabulate pixels nearest ascend descend anyBelow apart gap size copperOf scanned fromRow fromThree rightward leftward seeds offer replaces put passesAt passes g least skeletonOf removed takenBy rebuilt covered radiusQ radiusAnswer measurable firstOf
 boards m1 = (refl, (refl, (refl, (refl, refl))))
 boards m2 = (refl, refl)
 boards m3 = (refl, refl)
@@ -30,3 +30,4 @@ boards m6 = (refl, refl)
 boards m7 = (refl, refl)
 boards m8 = (refl, (refl, (refl, refl)))
 boards m9 = (refl, refl)
+boards c16 = (refl, refl)

@@ -1,4 +1,4 @@
--- The boards that document 01 marks for proof, M1 to M9, as one table of what the definitions say on them.
+-- The boards that document 01 marks for proof, M1 to M9, and the one of document 02's C-16, as one table of what the definitions say on them.
 -- Assumes nothing.
 use mathlib.Core.Bool.{true, false}
 use mathlib.Core.List.{List, [], _∷_}
@@ -26,10 +26,14 @@ three = pos 0 ∷ pos 0 ∷ negsuc 0 ∷ pos 0 ∷ negsuc 1 ∷ pos 0 ∷ []
 unfoldable pub ends : List ℤ
 ends = engineMap (openedAs 5 1) (1 ∷ 0 ∷ 0 ∷ 0 ∷ 1 ∷ []) 1
 
-pub data Marked : Type 0 where
-  m1 m2 m3 m4 m5 m6 m7 m8 m9 : Marked
+-- 2 × 2 with copper at (1, 0) and (0, 1): its map by 4SED
+unfoldable pub corner : List ℤ
+corner = engineMap (openedAs 2 2) (0 ∷ 1 ∷ 1 ∷ 0 ∷ []) 3
 
--- what document 01 says of each
+pub data Marked : Type 0 where
+  m1 m2 m3 m4 m5 m6 m7 m8 m9 c16 : Marked
+
+-- what the documents say of each
 abbrev pub Says : Marked → Type 0
 Says m1 = (sizeAt (four 1) 0 ≡ 8) × ((sizeAt (four 2) 0 ≡ 8) × ((sizeAt (four 3) 0 ≡ 9) × ((dxAt (four 3) 0 ≡ pos 3) × (dyAt (four 3) 0 ≡ pos 0))))
 Says m2 = (passesAt 1 (four 1) 0 7 ≡ true) × (passesAt 1 (four 1) 0 8 ≡ false)
@@ -42,3 +46,4 @@ Says m6 = (dxAt (engineMap (openedAs 3 1) (1 ∷ 0 ∷ 1 ∷ []) 1) 1 ≡ negsuc
 Says m7 = (skeletonOf ends 5 1 ≡ (0 ∷ 0 ∷ 1 ∷ 0 ∷ 0 ∷ [])) × (rebuilt ends 5 1 (0 ∷ 0 ∷ 1 ∷ 0 ∷ 0 ∷ []) ≡ (0 ∷ 1 ∷ 1 ∷ 1 ∷ 0 ∷ []))
 Says m8 = (g false 25 ≡ 16) × ((g true 25 ≡ 13) × ((g false 16 ≡ 9) × (g true 16 ≡ 8)))
 Says m9 = (radiusQ 100 25 ≡ 16) × (radiusQ 110 25 ≡ 19)
+Says c16 = (dxAt corner 3 ≡ negsuc 0) × (dyAt corner 3 ≡ pos 0)

@@ -37,9 +37,11 @@ isMark (negsuc n) = eqb n 32767
 abbrev pub unlabelled : ℤ → ℤ → Bool
 unlabelled dx dy = isMark dx && isMark dy
 
--- (cx, cy) replaces (dx, dy): that is unlabelled or larger in size; an equal one does not
+-- document 02, C-16: (cx, cy) replaces (dx, dy) if that is unlabelled or larger in size, and among equal sizes if its own dx is the larger one in
+-- magnitude; otherwise (dx, dy) stays
 unfoldable pub replaces : ℤ → ℤ → ℤ → ℤ → Bool
-replaces dx dy cx cy = unlabelled dx dy || ltb (size cx cy) (size dx dy)
+replaces dx dy cx cy =
+    unlabelled dx dy || (ltb (size cx cy) (size dx dy) || (eqb (size cx cy) (size dx dy) && ltb (natAbs dx) (natAbs cx)))
 
 -- the way from (x, y) by (dx, dy) ends at the pixel (i, j)
 pub record Ends (x y : ℕ) (dx dy : ℤ) (i j : ℕ) : Type 0 where

@@ -2,19 +2,18 @@
 -- speaks of signed numbers.
 -- Assumes nothing.
 use mathlib.Core.Path.{_≡_, refl, sym, ap, _∙_}
-use mathlib.Core.Bool.{Bool, true, false, cond, _||_, false≢true}
+use mathlib.Core.Bool.{Bool, true, false, cond, false≢true}
 use Prim.Native.Nat.{ℕ, suc, _+_, _-_, _≤_, _<_}
-use native.Mathlib.Nat.{mul-le-mul}
 use native.Mathlib.Omega.{arith}
 use lib.Dec.{ltb}
 use lib.IntN.{ℤ, pos, negsuc, natAbs, subℕ, negℤ, _+ℤ_, _-ℤ_, +ℤ-idl, +ℤ-idr, +ℤ-assoc, +ℤ-comm, +ℤ-invr, negℤ-+ℤ, +ℤ-negℤ-cancel, -ℤ-+ℤ-cancel}
-use borrow.Author.Tests.{ne-eqb, eqb-true, lt-ltb, le-ltb, ltb-true, ltb-false}
+use borrow.Author.Tests.{ne-eqb, eqb-true, le-ltb, ltb-true, ltb-false}
 use Rattle.raster.specs.Limits.{maxSide}
 use Rattle.raster.specs.Pixels.{Mask}
 use Rattle.raster.specs.Distance.{gap, apart}
 use Rattle.raster.specs.DistanceLaws.{gap-below}
 use Rattle.raster.specs.Tests.{and-left, and-right}
-use Rattle.raster.specs.Vector.{size, isMark, unlabelled, replaces, Ends, Target}
+use Rattle.raster.specs.Vector.{size, isMark, unlabelled, Ends, Target}
 
 -- ---- sums
 
@@ -46,15 +45,6 @@ unlabelled-size dx dy u = rw (mark-abs dx (and-left (isMark dx) _ u), mark-abs d
 pub near-labelled : (dx dy : ℤ) → natAbs dx ≤ maxSide → unlabelled dx dy ≡ false
 near-labelled (pos n) dy h = refl
 near-labelled (negsuc n) dy h = rw (ne-eqb n 32767 (omega arith))
-
--- an unlabelled pixel's numbers have a larger size than any vector near enough, so that sizes alone say what replaces it
-pub near-replaces : (dx dy cx cy : ℤ) → natAbs cx ≤ maxSide → natAbs cy ≤ maxSide → ltb (size cx cy) (size dx dy) ≡ replaces dx dy cx cy
-unfolding replaces size
-near-replaces dx dy cx cy a b = go (unlabelled dx dy) refl
-  where
-    go : (u : Bool) → unlabelled dx dy ≡ u → ltb (size cx cy) (size dx dy) ≡ u || ltb (size cx cy) (size dx dy)
-    go true u = lt-ltb (size cx cy) (size dx dy) (omega (arith, unlabelled-size dx dy u, mul-le-mul a a, mul-le-mul b b))
-    go false u = refl
 
 -- ---- where a vector ends
 

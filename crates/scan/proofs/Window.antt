@@ -11,11 +11,11 @@ use lib.IntN.{ℤ, pos, negsuc}
 use borrow.Author.Tests.{ltb-true}
 use Rattle.raster.specs.Pixels.{index}
 use Rattle.raster.specs.PixelsLaws.{index-one}
-use Rattle.raster.specs.Map.{dxAt, dyAt, unlabelledAt}
-use Rattle.candidate.specs.declared.SizedVector.{SizedVector}
+use Rattle.raster.specs.Map.{unlabelledAt}
+use Rattle.candidate.specs.declared.KeyedVector.{KeyedVector}
 use Rattle.candidate.specs.Candidate.{relax}
 use Rattle.candidate.specs.Holding.{isGiven, Given, Ahead, offerGiven}
-use Rattle.candidate.proofs.Neighbours.{elsewhere, elsewhere-if}
+use Rattle.candidate.proofs.Neighbours.{Unchanged, elsewhere, elsewhere-if}
 use Rattle.candidate.proofs.Held.{ahead-relax}
 use Rattle.scan.specs.Scan.{fromLeft, fromThree}
 
@@ -24,13 +24,13 @@ pub other-row : (w y b : ℕ) → y ≢ b → (x z : ℕ) → x < w → z < w �
 other-row w y b rows x z on k e = rows (sym (index-one w z b x y k on e .1))
 
 -- c is the vector of the labelled pixel p after the step (0, o) if the test t holds, and none otherwise
-pub record IfThere (t : Bool) (o : ℤ) (c : SizedVector) (m : List ℤ) (p : ℕ) : Type 0 where
+pub record IfThere (t : Bool) (o : ℤ) (c : KeyedVector) (m : List ℤ) (p : ℕ) : Type 0 where
   pub there : t ≡ true → Ahead o c m p × (unlabelledAt m p ≡ false)
   pub none : t ≡ false → isGiven c ≡ false
   pub given : Given c
 
 -- a pixel of a map that has the same vector there
-pub if-there-stays : {t : Bool} {o : ℤ} {c : SizedVector} {m n : List ℤ} {p : ℕ} → (t ≡ true → (dxAt n p ≡ dxAt m p) × (dyAt n p ≡ dyAt m p))
+pub if-there-stays : {t : Bool} {o : ℤ} {c : KeyedVector} {m n : List ℤ} {p : ℕ} → (t ≡ true → Unchanged m n p)
     → IfThere t o c m p → IfThere t o c n p
 if-there-stays same e = record {
   there = λ f. let h = e .there f in let s = same f in
@@ -39,7 +39,7 @@ if-there-stays same e = record {
   given = e .given;
 }
 
-if-there-offer : {t : Bool} {o : ℤ} {c : SizedVector} {m : List ℤ} {p : ℕ} → IfThere t o c m p → (at : ℕ) (ox : ℤ) → offerGiven c ox at m ≡ cond t (relax at p ox o m) m
+if-there-offer : {t : Bool} {o : ℤ} {c : KeyedVector} {m : List ℤ} {p : ℕ} → IfThere t o c m p → (at : ℕ) (ox : ℤ) → offerGiven c ox at m ≡ cond t (relax at p ox o m) m
 if-there-offer {t} {o} {c} {m} {p} e at ox = go t refl
   where
     go : (u : Bool) → t ≡ u → offerGiven c ox at m ≡ cond u (relax at p ox o m) m
@@ -47,7 +47,7 @@ if-there-offer {t} {o} {c} {m} {p} e at ox = go t refl
     go false f = rw (e .none f)
 
 -- the three candidates are those of the definition
-pub three-offers : (w y b : ℕ) (rows : y ≢ b) (o : ℤ) (x : ℕ) → x < w → {left mid right : SizedVector} {m : List ℤ}
+pub three-offers : (w y b : ℕ) (rows : y ≢ b) (o : ℤ) (x : ℕ) → x < w → {left mid right : KeyedVector} {m : List ℤ}
     → IfThere (ltb 0 x) o left m (index w (x - 1) b) → IfThere true o mid m (index w x b) → IfThere (ltb (x + 1) w) o right m (index w (x + 1) b)
     → offerGiven right (pos 1) (index w x y) (offerGiven mid (pos 0) (index w x y) (offerGiven left (negsuc 0) (index w x y) m)) ≡ fromThree w true y b o x m
 unfolding fromThree
@@ -59,9 +59,8 @@ three-offers w y b rows o x on {left} {mid} {right} {m} l c r =
     at : ℕ
     at = index w x y
 
-    by-left : (z : ℕ) → z < w → let n = fromLeft w true y b o x m in (dxAt n (index w z b) ≡ dxAt m (index w z b)) × (dyAt n (index w z b) ≡ dyAt m (index w z b))
+    by-left : (z : ℕ) → z < w → Unchanged m (fromLeft w true y b o x m) (index w z b)
     by-left z k = elsewhere-if at (index w (x - 1) b) (negsuc 0) o m (ltb 0 x) (index w z b) (λ e. other-row w y b rows x z on k)
 
-    by-mid : (z : ℕ) → z < w → let k = fromLeft w true y b o x m in let n = relax at (index w x b) (pos 0) o k in
-        (dxAt n (index w z b) ≡ dxAt k (index w z b)) × (dyAt n (index w z b) ≡ dyAt k (index w z b))
+    by-mid : (z : ℕ) → z < w → let k = fromLeft w true y b o x m in Unchanged k (relax at (index w x b) (pos 0) o k) (index w z b)
     by-mid z k = elsewhere at (index w x b) (pos 0) o (fromLeft w true y b o x m) (index w z b) (other-row w y b rows x z on k)

@@ -1,21 +1,22 @@
 -- How good a pixel's vector is. A pixel is within K if it is labelled and 12 × its distance is at most K. One candidate never loses that; a side
 -- step adds 12 to K, a corner step 17, since 17² ≥ 2 × 12².
 -- Assumes nothing.
-use mathlib.Core.Path.{_≡_, ap, subst}
+use mathlib.Core.Path.{_≡_, refl, ap, subst}
 use mathlib.Core.Logic.{_≢_}
-use mathlib.Core.Bool.{true, false}
+use mathlib.Core.Bool.{Bool, true, false, _&&_, _||_}
 use mathlib.Core.List.{List}
-use Prim.Native.Nat.{ℕ, _+_, _*_, _-_, _≤_, _<_}
+use Prim.Native.Nat.{ℕ, _+_, _*_, _-_, _≤_}
 use native.Mathlib.Decide.{ℕ-discrete, decLe}
 use native.Mathlib.Omega.{arith}
+use lib.Dec.{eqb, ltb}
 use lib.IntN.{ℤ, natAbs, _+ℤ_}
-use borrow.Author.Tests.{ltb-true, ltb-false}
+use borrow.Author.Tests.{ltb-true, ltb-false, eqb-true}
 use Rattle.raster.specs.DistanceLaws.{square-le, root-le}
 use Rattle.raster.specs.Vector.{UnitStep, size, unlabelled, replaces}
 use Rattle.raster.specs.VectorLaws.{add-abs}
 use Rattle.raster.specs.Map.{Inside, dxAt, dyAt, put}
 use Rattle.raster.specs.MapLaws.{put-dx, put-dy, put-dx-other, put-dy-other}
-use Rattle.raster.specs.Tests.{or-left, or-right, cond-ind}
+use Rattle.raster.specs.Tests.{and-left, or-left, or-right, cond-ind}
 use Rattle.candidate.specs.Candidate.{offer}
 use Rattle.candidate.proofs.Neighbours.{offer-ind}
 
@@ -71,14 +72,18 @@ module _ (x y ox oy : ℤ) where
 
 -- ---- one candidate
 
--- what replaces a labelled vector is smaller; what does not replace one leaves a labelled one that is no larger
-smaller : (x y a b : ℤ) → unlabelled x y ≡ false → replaces x y a b ≡ true → size a b < size x y
+-- what replaces a labelled vector is no larger; what does not replace one leaves a labelled one that is no larger
+no-larger : (x y a b : ℤ) → unlabelled x y ≡ false → replaces x y a b ≡ true → size a b ≤ size x y
 unfolding replaces
-smaller x y a b l r = ltb-true (size a b) (size x y) (rw l at r)
+no-larger x y a b l r = go (ltb (size a b) (size x y)) refl (rw l at r)
+  where
+    go : (t : Bool) → ltb (size a b) (size x y) ≡ t → t || (eqb (size a b) (size x y) && ltb (natAbs x) (natAbs a)) ≡ true → size a b ≤ size x y
+    go true e r = omega (arith, ltb-true (size a b) (size x y) e)
+    go false e r = omega (arith, eqb-true (size a b) (size x y) (and-left _ _ r))
 
 refused : (x y a b : ℤ) → replaces x y a b ≡ false → (unlabelled x y ≡ false) × (size x y ≤ size a b)
 unfolding replaces
-refused x y a b r = (or-left _ _ r, ltb-false (size a b) (size x y) (or-right (unlabelled x y) _ r))
+refused x y a b r = (or-left _ _ r, ltb-false (size a b) (size x y) (or-left _ _ (or-right (unlabelled x y) _ r)))
 
 -- a pixel after a write, there and elsewhere
 here : (at : ℕ) (x y : ℤ) (m : List ℤ) (K : ℕ) → Inside at m → Good x y K → Within (put at x y m) at K
@@ -96,7 +101,7 @@ module _ (at : ℕ) (cx cy : ℤ) (m : List ℤ) (inside : Inside at m) (labels 
       written : replaces (dxAt m at) (dyAt m at) cx cy ≡ true → Dec (p ≡ at) → Within (put at cx cy m) p K
       written r (yes e) =
           let g′ = subst (λ (q : ℕ). Within m q K) e g in
-          rw e (here at cx cy m K inside (record { labelled = labels; near = omega (arith, smaller _ _ _ _ (g′ .labelled) r, g′ .near) }))
+          rw e (here at cx cy m K inside (record { labelled = labels; near = omega (arith, no-larger _ _ _ _ (g′ .labelled) r, g′ .near) }))
       written r (no n) = elsewhere at cx cy m p K n g
 
   -- the pixel has that vector, or one no larger

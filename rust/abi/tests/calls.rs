@@ -1,4 +1,4 @@
-//! Document 01's boards and edges, call by call: each test is run on the library's session and on the model's.
+//! The boards of documents 01 and 02, and document 01's edges, call by call: each test is run on the library's session and on the model's.
 
 use model::boards::{self, Board};
 use model::calls::Calls;
@@ -31,6 +31,7 @@ on_either!(
     m1_to_m4,
     m5_and_m6,
     m7,
+    c16,
     limits,
     sides_that_no_sheet_has,
     no_call_could_hand_back,
@@ -104,6 +105,13 @@ fn m7<S: Calls>() {
     assert_eq!(told(S::from(session).skeleton(&map, &mut kept)), (0, session));
     assert_eq!(told(S::from(session).rebuild(&map, &kept, &mut bare)), (0, session));
     assert_eq!((kept, bare), ([0, 0, 1, 0, 0], [0, 1, 1, 1, 0]));
+}
+
+/// Of two that are equally far the quick maps have the one with the larger dx; the exact map keeps its own choice.
+fn c16<S: Calls>() {
+    for (engine, [dx, dy]) in [(1, [0, 1]), (2, [1, 0]), (3, [1, 0])] {
+        assert_eq!(built::<S>(&boards::c16(), engine).1, [dx, dy, 0, 0, 0, 0, -1, 0]);
+    }
 }
 
 fn limits<S: Calls>() {

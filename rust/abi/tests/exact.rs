@@ -136,13 +136,12 @@ fn boards_of_document_01() {
     assert_eq!(map_of(&boards::m6(), 1, &mut random), [[0, 0], [-1, 0], [0, 0]]);
 }
 
-/// The exact size is 481 where 8SED has 485.
+/// The exact size is 169 where 8SED has 170.
 #[test]
 fn arrow_head() {
     let mut random = Random::new(50);
     let board = boards::arrow_head();
     check(&board, &mut random);
-    let at = 10 * board.w + 3;
-    assert_eq!(size(map_of(&board, 1, &mut random)[at]), 481);
-    assert_eq!(size(map_of(&board, 2, &mut random)[at]), 485);
+    assert_eq!(size(map_of(&board, 1, &mut random)[0]), 169);
+    assert_eq!(size(map_of(&board, 2, &mut random)[0]), 170);
 }

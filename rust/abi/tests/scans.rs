@@ -3,10 +3,10 @@
 mod common;
 
 use common::map_of;
-use model::boards::{self, scattered, Board};
+use model::boards::{self, patterned, scattered, Board};
 use model::nearest;
 use model::random::Random;
-use model::scans::{self, UNLABELLED};
+use model::scans::{self, OTHER_RULES, UNLABELLED};
 use model::skeleton::size;
 
 /// The library's map by 8SED (with `corners`) or 4SED.
@@ -24,11 +24,11 @@ fn distances(board: &Board) -> Vec<Option<u64>> {
     }
 }
 
-/// All that is to be seen of both scans on a board.
-fn check(board: &Board, random: &mut Random) {
+/// All that is to be seen of both scans on a board. The maps by 4SED and by 8SED are handed back.
+fn check(board: &Board, random: &mut Random) -> [Vec<[i16; 2]>; 2] {
     let &Board { w, h, ref sheet } = board;
     let distances = distances(board);
-    for corners in [false, true] {
+    [false, true].map(|corners| {
         let map = lent(board, corners, random);
         let expected = scans::scan(sheet, w, h, corners);
         for at in 0..w * h {
@@ -48,7 +48,26 @@ fn check(board: &Board, random: &mut Random) {
             assert!(if corners { 144 * a <= 169 * e } else { a <= 2 * e }, "size {a} for {e}, {}", place());
             assert_eq!(a == 0, sheet[at] != 0, "{}", place());
         }
+        map
+    })
+}
+
+/// Checks boards on which candidates of equal size meet: by either scan each of the other rules gives another map on at least so many of
+/// them.
+fn check_equals(boards: impl Iterator<Item = Board>, least: usize) {
+    let mut random = Random::new(17);
+    let mut differ = [[0; OTHER_RULES.len()]; 2];
+    for board in boards {
+        let maps = check(&board, &mut random);
+        for corners in [false, true] {
+            let engine = usize::from(corners);
+            for (which, rule) in OTHER_RULES.into_iter().enumerate() {
+                let other = scans::scan_by(rule, &board.sheet, board.w, board.h, corners);
+                differ[engine][which] += usize::from(other != maps[engine]);
+            }
+        }
     }
+    assert!(differ.as_flattened().iter().all(|&boards| boards >= least), "{differ:?}");
 }
 
 #[test]
@@ -63,10 +82,58 @@ fn small() {
 /// Every sheet of up to twelve pixels.
 #[test]
 fn all_tiny() {
+    check_equals(boards::all_tiny(12), 14_000);
+}
+
+/// Two and three copper pixels anywhere.
+#[test]
+fn few_pixels() {
     let mut random = Random::new(12);
-    for board in boards::all_tiny(12) {
-        check(&board, &mut random);
-    }
+    let boards = (0..10_000).map(|turn| {
+        let (w, h) = (random.between(1, 30), random.between(1, 30));
+        boards::sprinkled(w, h, 2 + turn % 2, &mut random)
+    });
+    check_equals(boards, 3_000);
+}
+
+/// Boards that are their own mirror images: from side to side, from top to bottom, both, at the diagonal, all of these.
+#[test]
+fn symmetric() {
+    let mut random = Random::new(20);
+    let boards = (0..10_000).map(|turn| {
+        let (w, h) = (random.between(1, 16), random.between(1, 16));
+        match turn % 5 {
+            0 => scattered(w, h, &mut random).mirrored(true, false),
+            1 => scattered(w, h, &mut random).mirrored(false, true),
+            2 => scattered(w, h, &mut random).mirrored(true, true),
+            3 => scattered(w, w, &mut random).mirrored_diagonally(),
+            _ => scattered(w, w, &mut random).mirrored_diagonally().mirrored(true, true),
+        }
+    });
+    check_equals(boards, 3_000);
+}
+
+/// Two or three rows or columns.
+#[test]
+fn narrow() {
+    let mut random = Random::new(26);
+    let boards = (0..10_000).map(|turn| {
+        let (n, few) = (random.between(1, 60), 2 + turn % 2);
+        let (w, h) = if turn % 4 < 2 { (n, few) } else { (few, n) };
+        boards::any(w, h, &mut random)
+    });
+    check_equals(boards, 3_000);
+}
+
+/// Patterns of which many pixels have several nearest copper pixels.
+#[test]
+fn patterns() {
+    let mut random = Random::new(27);
+    let boards = (0..10_000).map(|_| {
+        let (w, h) = (random.between(1, 16), random.between(1, 16));
+        patterned(w, h, &mut random)
+    });
+    check_equals(boards, 3_000);
 }
 
 #[test]
@@ -95,6 +162,10 @@ fn large() {
     check(&boards::tracks(300, 200, &mut random), &mut random);
     check(&boards::random(200, 300, 5, &mut random), &mut random);
     check(&boards::one_pixel(256, 256), &mut random);
+    // many pixels are equally far from several
+    check(&boards::diagonal(200, 200), &mut random);
+    check(&boards::corners_and_middle(201, 301), &mut random);
+    check(&boards::middles_of_sides(301, 201), &mut random);
 }
 
 /// On the largest sheet a single copper pixel is where every vector leads, up to ±2,047 away.
@@ -127,7 +198,6 @@ fn arrow_head() {
     let mut random = Random::new(19);
     let board = boards::arrow_head();
     check(&board, &mut random);
-    let at = 10 * board.w + 3;
-    assert_eq!(size(lent(&board, true, &mut random)[at]), 485);
-    assert_eq!(distances(&board)[at], Some(481));
+    assert_eq!(size(lent(&board, true, &mut random)[0]), 170);
+    assert_eq!(distances(&board)[0], Some(169));
 }

@@ -209,9 +209,8 @@ fn arrow_heads_everywhere() {
         }
     }
     let mut list = built(&boards::arrow_head(), 2, &mut random);
-    let at = 2 * (10 * 27 + 3);
-    assert_eq!(size([list.map[at], list.map[at + 1]]), 485);
-    let [passes, fails] = [413, 414].map(|q| Call::Place { x: 3, y: 10, q });
+    assert_eq!(size([list.map[0], list.map[1]]), 170);
+    let [passes, fails] = [144, 145].map(|q| Call::Place { x: 0, y: 0, q });
     answers(&mut list, [(fails, 34), (passes, 0)], &mut random);
 }
 
@@ -223,17 +222,18 @@ fn claims_where_quick_maps_miss() {
     let mut boards = boards::arrow_heads().to_vec();
     boards.resize_with(10_000, || boards::arrow(random.between(4, 36), random.between(4, 36), &mut random));
     boards.extend(boards::of_three(6, 6));
-    // by 8SED, by 4SED, and by 4SED so far that the fraction of 8SED would not do
-    let mut missed = [0; 3];
+    // by 8SED and by 4SED
+    let mut missed = [0; 2];
     for board in boards {
         for engine in [2, 3] {
             let mut list = checked(Check::Board, &board, &mut random);
             assert_eq!(list.call(Call::Build { engine }, &mut random), 0);
             for (at, e) in nearest::all(&list.sheet, board.w, board.h).into_iter().enumerate() {
                 let found = size([list.map[2 * at], list.map[2 * at + 1]]);
-                let Some(e) = e.filter(|&e| e != found) else { continue };
+                if e.is_none_or(|e| e == found) {
+                    continue;
+                }
                 missed[usize::from(engine) - 2] += 1;
-                missed[2] += usize::from(144 * found > 169 * e);
                 let (x, y) = ((at % board.w) as u16, (at / board.w) as u16);
                 for gate in 1..=3 {
                     let q = most(gate, found).expect("copper is not missed");
@@ -243,7 +243,7 @@ fn claims_where_quick_maps_miss() {
             }
         }
     }
-    assert!(missed[0] > 40 && missed[1] > 800 && missed[2] > 15, "{missed:?}");
+    assert!(missed[0] > 40 && missed[1] > 800, "{missed:?}");
 }
 
 /// Sheets of one row and of one column.

@@ -9,18 +9,20 @@ type Pixel = [i16; 2];
 
 const UNLABELLED: Pixel = [-32_768; 2];
 
-/// A vector with its size. That of an unlabelled pixel is 2³¹, above all others.
+/// A vector with its key, 2³² × its size + dy²: among equal sizes the smaller dy² is the larger dx in magnitude, so that one comparison of
+/// keys says which vector replaces the other. The key of an unlabelled pixel is 2⁶³ + 2³⁰, above all others.
 #[derive(Clone, Copy)]
 struct Way {
     dx: i32,
     dy: i32,
-    size: u32,
+    key: u64,
 }
 
 impl Way {
     fn of([dx, dy]: Pixel) -> Way {
         let (dx, dy) = (i32::from(dx), i32::from(dy));
-        Way { dx, dy, size: (dx * dx) as u32 + (dy * dy) as u32 }
+        let (across, down) = ((dx * dx) as u64, (dy * dy) as u64);
+        Way { dx, dy, key: ((across + down) << 32) + down }
     }
 
     fn pixel(self) -> Pixel {
@@ -29,13 +31,15 @@ impl Way {
 
     /// The candidate of a neighbour with this vector at (x, y) from the pixel.
     fn at(self, x: i32, y: i32) -> Way {
-        let more = 2 * (self.dx * x + self.dy * y) + x * x + y * y;
-        Way { dx: self.dx + x, dy: self.dy + y, size: self.size.wrapping_add_signed(more) }
+        // what the step adds to dx² and to dy²
+        let across = i64::from(2 * self.dx * x + x * x);
+        let down = i64::from(2 * self.dy * y + y * y);
+        Way { dx: self.dx + x, dy: self.dy + y, key: self.key.wrapping_add_signed(((across + down) << 32) + down) }
     }
 
-    /// The candidate if it is smaller, otherwise this one.
+    /// The candidate if it replaces this one, otherwise this one.
     fn or(self, candidate: Way) -> Way {
-        if candidate.size < self.size {
+        if candidate.key < self.key {
             candidate
         } else {
             self
@@ -116,7 +120,7 @@ fn sweep<'a, const DX: i32>(mut row: impl Iterator<Item = &'a mut Pixel>) {
     for pixel in row {
         let candidate = neighbour.at(DX, 0);
         neighbour = Way::of(*pixel);
-        if candidate.size < neighbour.size {
+        if candidate.key < neighbour.key {
             neighbour = candidate;
             *pixel = candidate.pixel();
         }

@@ -1,4 +1,5 @@
-//! The scans in plain safe Rust, candidate by candidate as document 01 states them. Nothing is assumed about which vectors can occur.
+//! The scans in plain safe Rust, candidate by candidate as documents 01 and 02 state them. Nothing is assumed about which vectors can
+//! occur.
 
 type Pixel = [i16; 2];
 
@@ -31,11 +32,16 @@ impl Way {
     /// What a pixel with this vector holds after it was offered the candidate of a neighbour at (x, y) from it.
     fn offered(self, neighbour: Way, x: i32, y: i32) -> Way {
         let candidate = Way { dx: neighbour.dx + x, dy: neighbour.dy + y };
-        if neighbour != NONE && candidate.size() < self.size() {
+        if neighbour != NONE && candidate.replaces(self) {
             candidate
         } else {
             self
         }
+    }
+
+    /// Whether a candidate is smaller than the present vector, or of equal size and larger in the magnitude of dx.
+    fn replaces(self, present: Way) -> bool {
+        self.size() < present.size() || self.size() == present.size() && self.dx.abs() > present.dx.abs()
     }
 }
 

@@ -23,7 +23,7 @@ fn arrow_head() {
     let (picture, kept) = drawn("arrow_head");
     assert!(picture == kept, "examples/arrow_head.svg is not the picture of its job");
     assert_eq!(picture.matches("l8 8m0 -8l-8 8").count(), 3);
-    assert!(picture.contains("(3, 10) size 485") && picture.contains("(3, 10) size 481"));
+    assert!(picture.contains("(13, 13) size 170") && picture.contains("(13, 13) size 169"));
 }
 
 /// What is refused before there is a sheet stands in words.

@@ -46,6 +46,27 @@ impl Board {
         Board { sheet, ..*self }
     }
 
+    /// The right half mirrored to the left (`sideways`), the lower half to the upper (`upwards`), or both.
+    pub fn mirrored(&self, sideways: bool, upwards: bool) -> Board {
+        let half = |n: usize, side: usize, mirrored: bool| if mirrored { n.max(side - 1 - n) } else { n };
+        self.picked(|x, y| (half(x, self.w, sideways), half(y, self.h, upwards)))
+    }
+
+    /// The half of a square sheet that is below its diagonal, mirrored to the other half: x and y can be exchanged.
+    pub fn mirrored_diagonally(&self) -> Board {
+        assert_eq!(self.w, self.h);
+        self.picked(|x, y| (x.min(y), x.max(y)))
+    }
+
+    /// A board that has at each pixel what this one has at the pixel that is told.
+    fn picked(&self, pixel: impl Fn(usize, usize) -> (usize, usize)) -> Board {
+        let byte = |at: usize| {
+            let (x, y) = pixel(at % self.w, at / self.w);
+            self.sheet[y * self.w + x]
+        };
+        Board { sheet: (0..self.sheet.len()).map(byte).collect(), ..*self }
+    }
+
     /// Writes copper in a square of `2 × reach + 1` pixels around (x, y), as far as it lies on the sheet.
     fn dab(&mut self, x: usize, y: usize, reach: usize) {
         for row in y.saturating_sub(reach)..self.h.min(y + reach + 1) {
@@ -89,9 +110,14 @@ pub fn m7() -> Board {
     Board::with(5, 1, &[(0, 0), (4, 0)])
 }
 
-/// Three copper pixels around which 8SED misses the nearest: it has 485 at pixel (3, 10), and true is 481.
+/// The 2 × 2 board of document 02 (C-16).
+pub fn c16() -> Board {
+    Board::with(2, 2, &[(1, 0), (0, 1)])
+}
+
+/// Three copper pixels around which 8SED misses the nearest: it has 170 at pixel (0, 0), and true is 169.
 pub fn arrow_head() -> Board {
-    Board::with(27, 25, &[(20, 24), (25, 9), (23, 19)])
+    Board::with(14, 8, &[(13, 1), (12, 5), (11, 7)])
 }
 
 /// The arrow head turned and mirrored in all eight ways.
@@ -267,15 +293,7 @@ pub fn patterned(w: usize, h: usize, random: &mut Random) -> Board {
             drawn(w, h, |x, y| square(x, y) == size || a > 4 && square(x, y) > size)
         }
         // copper anywhere, mirrored from side to side, from top to bottom or both
-        _ => {
-            let mut board = scattered(w, h, random);
-            for at in 0..w * h {
-                let (x, y) = (at % w, at / w);
-                let (x, y) = (if a < 5 { x.max(w - 1 - x) } else { x }, if a > 2 { y.max(h - 1 - y) } else { y });
-                board.sheet[at] = board.sheet[y * w + x];
-            }
-            board
-        }
+        _ => scattered(w, h, random).mirrored(a < 5, a > 2),
     }
 }
 
@@ -298,5 +316,27 @@ pub fn benchmark(name: &str, side: usize) -> Board {
         "diagonal" => diagonal(side, side),
         "full" => full(side, side),
         _ => panic!("no board of the benchmark is called '{name}'"),
+    }
+}
+
+#[cfg(test)]
+mod tests {
+    use super::*;
+
+    #[test]
+    fn mirror_images() {
+        let mut random = Random::new(6);
+        for _ in 0..500 {
+            let (w, h) = (random.between(1, 9), random.between(1, 9));
+            for (sideways, upwards) in [(true, false), (false, true), (true, true)] {
+                let board = scattered(w, h, &mut random).mirrored(sideways, upwards);
+                let image = board.picked(|x, y| (if sideways { w - 1 - x } else { x }, if upwards { h - 1 - y } else { y }));
+                assert_eq!(board.sheet, image.sheet, "{board:?}");
+            }
+            let board = scattered(w, w, &mut random).mirrored_diagonally();
+            for board in [board.mirrored(true, true), board] {
+                assert_eq!(board.sheet, board.picked(|x, y| (y, x)).sheet, "{board:?}");
+            }
+        }
     }
 }

@@ -124,7 +124,7 @@ mod tests {
     fn arrow_head() {
         let board = boards::arrow_head();
         for exact in BOTH {
-            assert_eq!(size(exact(&board.sheet, board.w, board.h)[10 * board.w + 3]), 481);
+            assert_eq!(size(exact(&board.sheet, board.w, board.h)[0]), 169);
         }
     }
 

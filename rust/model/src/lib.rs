@@ -1,4 +1,5 @@
-//! Document 01 as a plain model, written from the paper and not from the library's code. The tests compare the two.
+//! Document 01, with what document 02 changes, as a plain model, written from the papers and not from the library's code. The tests compare
+//! the two.
 
 pub mod boards;
 pub mod calls;

@@ -36,7 +36,7 @@ mod tests {
     #[test]
     fn arrow_head() {
         let board = boards::arrow_head();
-        assert_eq!(squared(&board.sheet, board.w, board.h, 3, 10), Some(481));
+        assert_eq!(squared(&board.sheet, board.w, board.h, 0, 0), Some(169));
     }
 
     #[test]

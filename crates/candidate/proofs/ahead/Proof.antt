@@ -1,4 +1,4 @@
--- `candidate::ahead` meets its contract, by those of the calls. Its components are near, so the size is one that vectors have.
+-- `candidate::ahead` meets its contract, by those of the calls. Its components are near, so the key is one that vectors have.
 -- Assumes nothing.
 use mathlib.Core.Path.{_≡_, sym, ap, _∙_}
 use mathlib.Core.Bool.{true≢false}
@@ -14,8 +14,8 @@ use Rattle.raster.proofs.Signed.{short-wide}
 use Rattle.raster.specs.Limits.{maxSide}
 use Rattle.raster.specs.VectorLaws.{add-abs}
 use Rattle.raster.specs.Map.{dyAt}
-use Rattle.candidate.specs.Holding.{noSize}
-use Rattle.candidate.proofs.Carried.{near-size}
+use Rattle.candidate.specs.Key.{keyLimit}
+use Rattle.candidate.specs.KeyLaws.{near-key}
 use Rattle.candidate.proofs.ahead.Statement.{statement}
 use Rattle.candidate.proofs.ahead.Tie as tie
 
@@ -25,8 +25,8 @@ dx-fits c = record { sfits = c .before .before .dx-at .ok }
 dy-fits : (c : tie.After-shifted) → SFits w32 (c .shifted .result)
 dy-fits c = record { sfits = c .shifted .ok }
 
-size-of-requires : tie.Need-size-of-requires
-size-of-requires c κs =
+key-of-requires : tie.Need-key-of-requires
+key-of-requires c κs =
     let x = c .before .before .dx-at in
     simp (toZ-ofZ, dx-fits c, dy-fits c) (omega (arith, short-wide (x .result) (x .ensures .1)), c .shifted .ensures .1)
 
@@ -45,8 +45,8 @@ returns c =
     let s = d .before .before .before in
     let a : natAbs (x .result) < maxSide = rw (x .ensures .0) (s .pre .1 .0) in
     let b : natAbs (d .shifted .result) ≤ maxSide = rw (dy-is d) (omega (arith, s .pre .1 .1, s .pre .0 .1, add-abs (dyAt (s .args .map .now) (s .args .p)) (s .args .o))) in
-    let z = simp (toZ-ofZ, dx-fits d, dy-fits d) at (c .size-of .ensures) in
-    let n = lt-ltb (c .size-of .result) noSize (rw z (near-size (x .result) (d .shifted .result) (omega arith) b)) in
+    let z = simp (toZ-ofZ, dx-fits d, dy-fits d) at (c .key-of .ensures) in
+    let n = lt-ltb (c .key-of .result) keyLimit (rw z (near-key (x .result) (d .shifted .result) (omega arith) b)) in
     simp (toZ-ofZ, dx-fits d, dy-fits d) (record {
       dx = x .ensures .0;
       dy = dy-is d;
@@ -56,4 +56,4 @@ returns c =
 
 pub ahead-spec : {M : Type 1} → statement M
 ahead-spec =
-    tie.close (tie.spec (λ c κs. search needs) (λ c κs. search needs) (λ c κs. search needs) size-of-requires returns)
+    tie.close (tie.spec (λ c κs. search needs) (λ c κs. search needs) (λ c κs. search needs) key-of-requires returns)

@@ -1,4 +1,4 @@
--- `candidate::better` meets its contract: sizes alone say what replaces what (`offered`), and each number is picked by that.
+-- `candidate::better` meets its contract: keys alone say what replaces what (`offered`), and each number is picked by that.
 -- Assumes nothing.
 use mathlib.Core.Path.{refl, _∙_}
 use lib.Dec.{ltb}
@@ -26,11 +26,11 @@ returns c =
     let d = s .pre .0 .0 in
     let g = s .pre .0 .1 in
     let u = s .pre .1 in
-    let e = simp (toZ-ofZ, s .fits .o) at (z .size-after .ensures) in
-    offered (a .d) (a .c) (a .o) d g u (z .size-after .result) (e .0) (e .1) (ltb (z .size-after .result) (a .d .size)) refl
+    let e = simp (toZ-ofZ, s .fits .o) at (z .key-after .ensures) in
+    offered (a .d) (a .c) (a .o) d g u (z .key-after .result) (e .0) (e .1) (ltb (z .key-after .result) (a .d .key)) refl
     (toZ-ofZ w32 _ (record { sfits = x .ok }) ∙ (simp (toZ-ofZ, given-dx g, s .fits .o, side-fits g (a .o) u, fits-dx d) at (x .ensures)))
     (toZ-ofZ w32 _ (record { sfits = y .ok }) ∙ (simp (toZ-ofZ, given-dy g, fits-dy d) at (y .ensures)))
-    (c .pick-size .ensures)
+    (c .pick-key .ensures)
 
 pub better-spec : {M : Type 1} → statement M
 better-spec =

@@ -7,7 +7,7 @@ use native.Mathlib.Omega.{arith}
 use lib.Dec.{T, ltb→lt}
 use lib.IntN.{ℤ, pos, negsuc, natAbs, negℤ, subℕ, _+ℤ_, +ℤ-idr, negℤ-+ℤ}
 use lib.Signed.{ltZ, nonNeg}
-use mir.Syntax.{w32}
+use mir.Syntax.{w32, w64}
 use mir.Val.{SFits}
 use mir.ValLaws.{toZ-ofZ}
 use borrow.Author.Tests.{le-ltb, lt-ltb}
@@ -15,7 +15,7 @@ use Rattle.raster.proofs.Signed.{minus-abs, wide-fits}
 use Rattle.raster.specs.Tests.{holds, fails}
 use Rattle.raster.specs.Vector.{UnitStep}
 use Rattle.raster.specs.VectorLaws.{add-abs}
-use Rattle.candidate.specs.Holding.{square}
+use Rattle.candidate.specs.Key.{square}
 use Rattle.candidate.proofs.growth.Statement.{statement}
 use Rattle.candidate.proofs.growth.Tie as tie
 
@@ -42,6 +42,10 @@ no-step (negsuc n) s t u = absurd t
 abbrev more : ℤ → ℤ
 more v = pos 4097 +ℤ (v +ℤ v)
 
+-- what 32 bits hold, 64 bits hold
+longer : {z : ℤ} → SFits w32 z → SFits w64 z
+longer f = omega arith
+
 module _ (v : ℤ) (near : natAbs v ≤ 2048) where
   twice : natAbs (v +ℤ v) ≤ 4096
   twice = omega (arith, add-abs v v)
@@ -49,11 +53,14 @@ module _ (v : ℤ) (near : natAbs v ≤ 2048) where
   twice-fits : SFits w32 (v +ℤ v)
   twice-fits = wide-fits (v +ℤ v) (omega (arith, twice))
 
+  twice-fits-64 : SFits w64 (v +ℤ v)
+  twice-fits-64 = longer twice-fits
+
   more-far : natAbs (more v) ≤ 8193
   more-far = omega (arith, twice, add-abs (pos 4097) (v +ℤ v))
 
-  more-fits : SFits w32 (more v)
-  more-fits = wide-fits (more v) (omega (arith, more-far))
+  more-fits : SFits w64 (more v)
+  more-fits = longer (wide-fits (more v) (omega (arith, more-far)))
 
   near-minus : natAbs (negℤ v) ≤ 2048
   near-minus = rw (minus-abs v) near
@@ -78,7 +85,7 @@ cast-result c =
     let s = c .before in
     let v = s .args .v in
     let n = near-minus v (s .pre .0) in
-    simp (toZ-ofZ, s .fits .v, twice-fits v (s .pre .0), negℤ-+ℤ v v, more-fits (negℤ v) n) (more-is (negℤ v) n .0, omega (arith, more-far (negℤ v) n))
+    simp (toZ-ofZ, s .fits .v, twice-fits v (s .pre .0), twice-fits-64 v (s .pre .0), negℤ-+ℤ v v, more-fits (negℤ v) n) (more-is (negℤ v) n .0, omega (arith, more-far (negℤ v) n))
 
 returns : tie.Need-returns
 returns c =
@@ -86,14 +93,14 @@ returns c =
     let v = s .args .v in
     let n = near-minus v (s .pre .0) in
     let o = step-down (s .args .o) (s .pre .1) (simp (toZ-ofZ, s .fits .o) at (holds (c .if1 .taken))) in
-    simp (toZ-ofZ, s .fits .v, twice-fits v (s .pre .0), negℤ-+ℤ v v, more-fits (negℤ v) n, o) (less-is v n, more-far (negℤ v) n)
+    simp (toZ-ofZ, s .fits .v, twice-fits v (s .pre .0), twice-fits-64 v (s .pre .0), negℤ-+ℤ v v, more-fits (negℤ v) n, o) (less-is v n, more-far (negℤ v) n)
 
 cast-result-2 : tie.Need-cast-result-2
 cast-result-2 c =
     let s = c .before .before in
     let v = s .args .v in
     let n = s .pre .0 in
-    simp (toZ-ofZ, s .fits .v, twice-fits v n, more-fits v n) (more-is v n .0, omega (arith, more-far v n))
+    simp (toZ-ofZ, s .fits .v, twice-fits v n, twice-fits-64 v n, more-fits v n) (more-is v n .0, omega (arith, more-far v n))
 
 returns-2 : tie.Need-returns-2
 returns-2 c =
@@ -101,7 +108,7 @@ returns-2 c =
     let v = s .args .v in
     let n = s .pre .0 in
     let o = step-up (s .args .o) (s .pre .1) (simp (toZ-ofZ, s .fits .o) at (holds (c .if2 .taken))) in
-    simp (toZ-ofZ, s .fits .v, twice-fits v n, more-fits v n, o) (more-is v n .1, more-far v n)
+    simp (toZ-ofZ, s .fits .v, twice-fits v n, twice-fits-64 v n, more-fits v n, o) (more-is v n .1, more-far v n)
 
 returns-3 : tie.Need-returns-3
 returns-3 c =
@@ -113,13 +120,14 @@ pub growth-spec : {M : Type 1} → statement M
 growth-spec =
     tie.close
     (tie.spec
-    (λ c. let s = c .before in simp (toZ-ofZ, s .fits .v) (twice-fits (s .args .v) (s .pre .0)))
+    (λ s. simp (toZ-ofZ, s .fits .v) (twice-fits (s .args .v) (s .pre .0)))
+    (λ s. let v = s .args .v in simp (toZ-ofZ, s .fits .v, twice-fits v (s .pre .0)) (twice-fits-64 v (s .pre .0)))
     (λ c. let s = c .before in let v = s .args .v in
-    simp (toZ-ofZ, s .fits .v, twice-fits v (s .pre .0), negℤ-+ℤ v v) (more-fits (negℤ v) (near-minus v (s .pre .0))))
+    simp (toZ-ofZ, s .fits .v, twice-fits v (s .pre .0), twice-fits-64 v (s .pre .0), negℤ-+ℤ v v) (more-fits (negℤ v) (near-minus v (s .pre .0))))
     cast-result
     returns
-    (λ c. let s = c .before .before in simp (toZ-ofZ, s .fits .v) (twice-fits (s .args .v) (s .pre .0)))
-    (λ c. let s = c .before .before in let v = s .args .v in simp (toZ-ofZ, s .fits .v, twice-fits v (s .pre .0)) (more-fits v (s .pre .0)))
+    (λ c. let s = c .before .before in let v = s .args .v in
+    simp (toZ-ofZ, s .fits .v, twice-fits v (s .pre .0), twice-fits-64 v (s .pre .0)) (more-fits v (s .pre .0)))
     cast-result-2
     returns-2
     returns-3)

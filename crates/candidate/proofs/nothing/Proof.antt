@@ -1,4 +1,4 @@
--- `candidate::nothing` meets its contract: its size says that there is none.
+-- `candidate::nothing` meets its contract: its key says that there is none.
 -- Assumes nothing.
 use mathlib.Core.Path.{refl}
 use mathlib.Core.Bool.{false≢true}

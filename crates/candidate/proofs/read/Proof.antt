@@ -9,8 +9,8 @@ use Rattle.raster.proofs.Signed.{short-wide}
 use Rattle.candidate.proofs.read.Statement.{statement}
 use Rattle.candidate.proofs.read.Tie as tie
 
-size-of-requires : tie.Need-size-of-requires
-size-of-requires c κs =
+key-of-requires : tie.Need-key-of-requires
+key-of-requires c κs =
     let x = c .before .dx-at in
     let y = c .dy-at in
     let f : SFits w32 (x .result) = record { sfits = x .ok } in
@@ -19,4 +19,4 @@ size-of-requires c κs =
     (omega (arith, short-wide (x .result) (x .ensures .1)), omega (arith, short-wide (y .result) (y .ensures .1)))
 
 pub read-spec : {M : Type 1} → statement M
-read-spec = tie.close (tie.spec (λ c κs. search needs) (λ c κs. search needs) size-of-requires (λ c. search needs))
+read-spec = tie.close (tie.spec (λ c κs. search needs) (λ c κs. search needs) key-of-requires (λ c. search needs))

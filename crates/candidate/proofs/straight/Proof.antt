@@ -18,7 +18,7 @@ returns c =
     let at = s .args .at in
     let m = s .args .map .now in
     let v = written-next at m (negsuc 0) i (written-next at m (pos 0) i (written-first at m (d .ensures)) (x .better .ensures)) (y .better2 .ensures) in
-    written-last at m i v (simp (toZ-ofZ, fits-dx (v .sized), fits-dy (v .sized)) at (c .before .put-at .ensures))
+    written-last at m i v (simp (toZ-ofZ, fits-dx (v .keyed), fits-dy (v .keyed)) at (c .before .put-at .ensures))
 
 pub straight-spec : {M : Type 1} → statement M
 straight-spec =

@@ -10,7 +10,7 @@ use Rattle.candidate.proofs.three.Tie as tie
 
 put-at-requires : tie.Need-put-at-requires
 put-at-requires c κs =
-    let v = c .before .before .before .better4 .ensures .sized in
+    let v = c .before .before .before .better4 .ensures .keyed in
     simp (toZ-ofZ, fits-dx v, fits-dy v) (search needs, (v .short-dx, v .short-dy))
 
 returns : tie.Need-returns
@@ -28,7 +28,7 @@ returns c =
     let b = written-next at m (pos 0) i a (x .better2 .ensures) in
     let e = written-next at m (pos 1) i b (y .better3 .ensures) in
     let v = written-next at m (negsuc 0) i e (z .better4 .ensures) in
-    written-last at m i v (simp (toZ-ofZ, fits-dx (v .sized), fits-dy (v .sized)) at (c .before .put-at .ensures))
+    written-last at m i v (simp (toZ-ofZ, fits-dx (v .keyed), fits-dy (v .keyed)) at (c .before .put-at .ensures))
 
 pub three-spec : {M : Type 1} → statement M
 three-spec =

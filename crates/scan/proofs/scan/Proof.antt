@@ -20,29 +20,32 @@ on-sheet s m t =
 
 scan-down-requires : tie.Need-scan-down-requires
 scan-down-requires c κs =
-    let w = c .before .before .write-seeds in
-    let s = c .before .before .before .before .before in
-    ((s .pre .0 .0, omega (arith, s .pre .1 .1, w .kept .1 .0)), rw (w .ensures) (on-sheet s _ start))
+    let w = c .before .before .before .write-seeds in
+    let s = c .before .before .before .before .before .before in
+    ((s .pre .0 .0, omega (arith, s .pre .1 .1, w .kept .1 .0)), (rw (w .ensures) (on-sheet s _ start), s .pre .0 .1 .0))
 
 scan-up-requires : tie.Need-scan-up-requires
 scan-up-requires c κs =
-    let d = c .before .before .scan-down in
-    let w = c .before .before .before .before .before .write-seeds in
-    let s = c .before .before .before .before .before .before .before .before in
+    let d = c .before .before .before .before .scan-down in
+    let w = c .before .before .before .before .before .before .before .before .write-seeds in
+    let s = c .before .before .before .before .before .before .before .before .before .before .before in
     let a = s .args in (
       (s .pre .0 .0, omega (arith, s .pre .1 .1, w .kept .1 .0, d .kept .0)),
-      rw (d .ensures, w .ensures) (on-sheet s _ (pass-moment (a .w) (a .h) (a .corners) (λ k. k) (negsuc 0) (downwards (a .h)) (a .h) (omega arith) (seeds (a .sheet .now)))),
+      (
+        rw (d .ensures, w .ensures) (on-sheet s _ (pass-moment (a .w) (a .h) (a .corners) (λ k. k) (negsuc 0) (downwards (a .h)) (a .h) (omega arith) (seeds (a .sheet .now)))),
+        omega (arith, s .pre .0 .1 .0, d .kept .1 .0),
+      ),
     )
 
 returns : tie.Need-returns
 unfolding scanned
 returns c =
-    let d = c .before .before .before .before in
-    let s = d .before .before .before in
+    let d = c .before .before .before .before .before .before .before in
+    let s = d .before .before .before .before in
     let a = s .before .before .before .args in
-    c .before .scan-up .ensures
+    c .before .before .scan-up .ensures
     ∙ ap (descend (upRow (a .w) (a .corners) (a .h)) (a .h)) (d .scan-down .ensures ∙ ap (λ (m : List ℤ). ascend (downRow (a .w) (a .corners)) (a .h) m) (s .write-seeds .ensures))
 
 pub scan-spec : {M : Type 1} → statement M
 scan-spec =
-    tie.close (tie.spec (λ c κs. search needs) scan-down-requires scan-up-requires (λ c. search needs) returns)
+    tie.close (tie.spec (λ c κs. search needs) (λ c. search needs) scan-down-requires (λ c. search needs) scan-up-requires (λ c. search needs) returns)

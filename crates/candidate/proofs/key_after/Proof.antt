@@ -1,9 +1,9 @@
--- `candidate::size_after` meets its contract: what the step adds to the square of a component is added to the size. Where there is no vector, nothing is taken
--- away, and the size stays too large.
+-- `candidate::key_after` meets its contract: what the step adds to the square of a component is added to the size, and dy² stays. Where there is no vector,
+-- nothing is taken away, and the key stays too large.
 -- Assumes nothing.
 use mathlib.Core.Path.{_≡_, refl, ap}
 use mathlib.Core.Bool.{Bool, true, false}
-use Prim.Native.Nat.{_+_, _≤_}
+use Prim.Native.Nat.{_+_, _*_, _≤_}
 use native.Mathlib.Nat.{mul-le-mul}
 use native.Mathlib.Omega.{arith}
 use lib.IntN.{natAbs, _+ℤ_}
@@ -11,22 +11,23 @@ use mir.ValLaws.{toZ-ofZ}
 use borrow.Author.Tests.{ltb-true}
 use Rattle.raster.specs.Limits.{maxSide}
 use Rattle.raster.specs.Vector.{size}
-use Rattle.candidate.specs.declared.SizedVector.{SizedVector}
-use Rattle.candidate.specs.Holding.{square, noSize, isGiven, Given}
+use Rattle.candidate.specs.declared.KeyedVector.{KeyedVector}
+use Rattle.candidate.specs.Key.{square, key, noKey, keyLimit}
+use Rattle.candidate.specs.Holding.{isGiven, Given}
 use Rattle.candidate.proofs.Carried.{given-dx}
-use Rattle.candidate.proofs.size_after.Statement.{statement}
-use Rattle.candidate.proofs.size_after.Tie as tie
+use Rattle.candidate.proofs.key_after.Statement.{statement}
+use Rattle.candidate.proofs.key_after.Tie as tie
 
--- the square of a component is part of the size, which is not above that of no vector
-parts : {c : SizedVector} → Given c → (square (c .dx) ≤ c .size) × (c .size ≤ noSize)
-unfolding size
+-- the square of dx is part of the key, which is not above that of no vector
+parts : {c : KeyedVector} → Given c → (4294967296 * square (c .dx) ≤ c .key) × (c .key ≤ noKey)
+unfolding key size
 parts {c} g = go (isGiven c) refl
   where
     near : natAbs (c .dx) ≤ maxSide
     near = omega (arith, g .near-dx)
 
-    go : (t : Bool) → isGiven c ≡ t → (square (c .dx) ≤ c .size) × (c .size ≤ noSize)
-    go true e = (omega (arith, g .own e), omega (arith, ltb-true (c .size) noSize e))
+    go : (t : Bool) → isGiven c ≡ t → (4294967296 * square (c .dx) ≤ c .key) × (c .key ≤ noKey)
+    go true e = (omega (arith, g .own e), omega (arith, ltb-true (c .key) keyLimit e))
     go false e = let n = g .absent e in (omega (arith, n .1, mul-le-mul near near), omega (arith, n .1))
 
 -- what the step adds
@@ -34,7 +35,7 @@ added : (c : tie.After-growth) → let a = c .before .before .args in c .growth 
 added c = let s = c .before .before in simp (toZ-ofZ, given-dx (s .pre .0), s .fits .o) at (c .growth .ensures .0)
 
 returns : tie.Need-returns
-unfolding size
+unfolding key size
 returns c =
     let s = c .before .before .before in
     let p = parts (s .pre .0) in (
@@ -42,11 +43,13 @@ returns c =
       (λ e. let n = s .pre .0 .absent e in omega (arith, n .1, ap (λ z. square z) (n .0), added (c .before))),
     )
 
-pub size-after-spec : {M : Type 1} → statement M
-size-after-spec =
+pub key-after-spec : {M : Type 1} → statement M
+key-after-spec =
     tie.close
     (tie.spec
     (λ c κs. let s = c .before in simp (toZ-ofZ, given-dx (s .pre .0), s .fits .o) (omega (arith, s .pre .0 .near-dx), s .pre .1))
+    (λ c. omega (arith, c .growth .ensures .1))
     (λ c. omega (arith, parts (c .before .before .before .pre .0) .1, c .before .growth .ensures .1))
+    (λ c. omega arith)
     (λ c. omega (arith, parts (c .before .before .before .pre .0) .0, added (c .before)))
     returns)
