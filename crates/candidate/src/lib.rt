@@ -177,8 +177,8 @@ pub fn nothing() -> KeyedVector
     }
 }
 
-// Pixel `at` is offered two candidates: that of its neighbour in the row before, which is `mid` after the step to this row, then that of the left neighbour in its
-// own row, which holds `last`.
+// Pixel `at` is offered two candidates: that of its neighbour in the row before, which is `mid` after the step to this row, then that of the left neighbour
+// in its own row, which holds `last`.
 pub fn straight(map: &mut [i16], at: usize, mid: KeyedVector, last: KeyedVector) -> KeyedVector
     requires { ⌜ Inside at (now map) ⌝ }
     requires { ⌜ Given mid × Given last ⌝ }
