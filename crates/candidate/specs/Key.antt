@@ -8,7 +8,7 @@ use Rattle.raster.specs.Vector.{size}
 abbrev pub square : ℤ → ℕ
 square z = natAbs z * natAbs z
 
--- 2³² × the size, and dy²
+-- 2³² × size + dy²
 unfoldable pub key : ℤ → ℤ → ℕ
 key dx dy = 4294967296 * size dx dy + square dy
 

@@ -1,5 +1,5 @@
-// What a pixel holds after the candidates of its neighbours (document 01, "Engines", and document 02, C-16): its vector, and the key of that, 2³² × its size
-// and dy². By it one test of two numbers tells whether a candidate replaces what is there.
+// What a pixel holds after the candidates of its neighbours (document 01, "Engines", and document 02, C-16): its vector, and the key of that,
+// 2³² × size + dy². One test of two keys tells whether a candidate replaces what is there.
 //
 // A candidate's key comes from its neighbour's: a step o to the side adds 2vo + o² to the square of v and leaves dy², so that nothing is multiplied out
 // twice. All candidates that a pixel is offered in a pass are looked at together, with one read and one write of the pixel.
@@ -17,13 +17,13 @@ ghost use Rattle.candidate.specs.Holding.{Keyed, AtPixel, isGiven, Given
 
 // ---- one candidate
 
-// What a size counts in a key, 2³²: the square of dy is less.
+// What a size counts in a key, 2³²: more than any square of dy.
 const UNIT: u64 = 4294967296;
 
 // The key that says that there is no vector, 2⁶³ + 2³⁰: that of an unlabelled pixel's numbers.
 const NO_KEY: u64 = 9223372037928517632;
 
-// A limit below it that every vector on a sheet keeps, 2⁶³: a test by it looks at one bit.
+// 2⁶³: every vector that ends on a sheet has a smaller key. A test by it looks at one bit.
 const KEY_LIMIT: u64 = 9223372036854775808;
 
 // A vector with its key, or none with the key that says so.

@@ -26,7 +26,7 @@ pub fn magnitude(z: i32) -> u32
 }
 
 // The square of the vector's length.
-pub fn size_of(dx: i32, dy: i32) -> u32
+fn size_of(dx: i32, dy: i32) -> u32
     requires { ⌜ Wide dx × Wide dy ⌝ }
     ensures { λ r. ⌜ r ≡ size dx dy ⌝ }
 {
