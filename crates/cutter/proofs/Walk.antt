@@ -14,9 +14,10 @@ use lib.ListN.{length}
 use borrow.Author.Tests.{ltb-false, leb-false, lt-ltb, le-ltb, le-leb, lt-leb}
 use Rattle.raster.specs.Loop.{anyBelow}
 use Rattle.raster.specs.LoopLaws.{any-false}
+use Rattle.raster.specs.Place.{inLine, isPixel}
 use Rattle.raster.specs.Tests.{or-left, or-right}
 use Rattle.cutter.specs.declared.Cutter.{Cutter}
-use Rattle.cutter.specs.Directions.{steps, stepRight, stepDown, placeAfter, leavesSide, columnAfter, rowAfter, walk, inLine, isPixel}
+use Rattle.cutter.specs.Directions.{steps, stepRight, stepDown, placeAfter, leavesSide, columnAfter, rowAfter, walk}
 use Rattle.cutter.specs.Gates.{leavesSheet, OnSheet}
 use Rattle.cutter.proofs.Signs.{run-stays, between}
 

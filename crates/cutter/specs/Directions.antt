@@ -1,6 +1,6 @@
 -- The eight directions: document 01, "Calls", run. Clockwise from east, x to the right, y down.
 -- Assumes nothing.
-use mathlib.Core.Bool.{Bool, false, _&&_}
+use mathlib.Core.Bool.{Bool, false}
 use mathlib.Core.List.{List, [], _∷_}
 use Prim.Native.Nat.{ℕ, zero, suc, _+_, _-_}
 use lib.Dec.{leb, ltb}
@@ -32,15 +32,6 @@ stepDown d = getD steps d (pos 0, pos 0) .1
 unfoldable pub walk : (direction n : ℕ) → ℤ × ℤ → ℤ × ℤ
 walk d zero p = p
 walk d (suc n) p = (walk d n p .0 +ℤ stepRight d, walk d n p .1 +ℤ stepDown d)
-
--- a place of a line of `side` places
-abbrev pub inLine : (side : ℕ) → ℤ → Bool
-inLine side (pos t) = ltb t side
-inLine side (negsuc t) = false
-
--- a pixel of a sheet of w × h
-abbrev pub isPixel : (w h : ℕ) → ℤ × ℤ → Bool
-isPixel w h p = inLine w (p .0) && inLine h (p .1)
 
 -- ---- the same at once, as the code works it out (proofs/Walk)
 

@@ -11,10 +11,11 @@ use Rattle.raster.specs.Gate.{Gate, passes}
 use Rattle.raster.specs.Loop.{anyBelow}
 use Rattle.raster.specs.Map.{sizeAt, unlabelledAt}
 use Rattle.raster.specs.Pixels.{index}
+use Rattle.raster.specs.Place.{isPixel}
 use Rattle.scan.specs.Scan as scan
 use Rattle.exact.specs.Nearest as exact
 use Rattle.cutter.specs.declared.Cutter.{Cutter}
-use Rattle.cutter.specs.Directions.{columnAfter, rowAfter, walk, isPixel}
+use Rattle.cutter.specs.Directions.{columnAfter, rowAfter, walk}
 
 -- the engines' numbers: 1 exact, 2 8SED, 3 4SED
 abbrev pub knownEngine : (engine : ℕ) → Bool

@@ -1,4 +1,4 @@
--- The boards that document 01 marks for proof, M1 to M9, and the one of document 02's C-16, as one table of what the definitions say on them.
+-- The boards that document 01 marks for proof, M1 to M9, and those of document 02's C-14 and C-16, as one table of what the definitions say on them.
 -- Assumes nothing.
 use mathlib.Core.Bool.{true, false}
 use mathlib.Core.List.{List, [], _∷_}
@@ -6,6 +6,7 @@ use mathlib.Core.Path.{_≡_}
 use Prim.Native.Nat.{ℕ}
 use lib.IntN.{ℤ, pos, negsuc}
 use Rattle.raster.specs.Map.{dxAt, dyAt, sizeAt}
+use Rattle.morphology.specs.Resize.{shrunk}
 use Rattle.rebuild.specs.Rebuild.{rebuilt}
 use Rattle.skeleton.specs.Table.{g}
 use Rattle.skeleton.specs.Skeleton.{skeletonOf}
@@ -30,8 +31,15 @@ ends = engineMap (openedAs 5 1) (1 ∷ 0 ∷ 0 ∷ 0 ∷ 1 ∷ []) 1
 unfoldable pub corner : List ℤ
 corner = engineMap (openedAs 2 2) (0 ∷ 1 ∷ 1 ∷ 0 ∷ []) 3
 
+-- 3 × 3, copper everywhere; and in its middle alone
+unfoldable pub full : List ℕ
+full = 1 ∷ 1 ∷ 1 ∷ 1 ∷ 1 ∷ 1 ∷ 1 ∷ 1 ∷ 1 ∷ []
+
+unfoldable pub middle : List ℕ
+middle = 0 ∷ 0 ∷ 0 ∷ 0 ∷ 1 ∷ 0 ∷ 0 ∷ 0 ∷ 0 ∷ []
+
 pub data Marked : Type 0 where
-  m1 m2 m3 m4 m5 m6 m7 m8 m9 c16 : Marked
+  m1 m2 m3 m4 m5 m6 m7 m8 m9 c14 c16 : Marked
 
 -- what the documents say of each
 abbrev pub Says : Marked → Type 0
@@ -46,4 +54,5 @@ Says m6 = (dxAt (engineMap (openedAs 3 1) (1 ∷ 0 ∷ 1 ∷ []) 1) 1 ≡ negsuc
 Says m7 = (skeletonOf ends 5 1 ≡ (0 ∷ 0 ∷ 1 ∷ 0 ∷ 0 ∷ [])) × (rebuilt ends 5 1 (0 ∷ 0 ∷ 1 ∷ 0 ∷ 0 ∷ []) ≡ (0 ∷ 1 ∷ 1 ∷ 1 ∷ 0 ∷ []))
 Says m8 = (g false 25 ≡ 16) × ((g true 25 ≡ 13) × ((g false 16 ≡ 9) × (g true 16 ≡ 8)))
 Says m9 = (radiusQ 100 25 ≡ 16) × (radiusQ 110 25 ≡ 19)
+Says c14 = (shrunk 3 3 1 full ≡ middle) × (shrunk 3 3 0 full ≡ full)
 Says c16 = (dxAt corner 3 ≡ negsuc 0) × (dyAt corner 3 ≡ pos 0)

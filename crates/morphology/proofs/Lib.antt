@@ -1,2 +1,4 @@
 pub mod Near
+pub mod Rim
 pub mod Resized
+pub mod Rows

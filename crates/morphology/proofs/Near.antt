@@ -1,15 +1,14 @@
 -- The test `near` says what `Near` says; on an exact map it is the test of the size.
 -- Assumes nothing.
-use mathlib.Core.Path.{_≡_, refl, sym, _∙_}
-use mathlib.Core.Bool.{Bool, true, false, not, _&&_, false≢true}
+use mathlib.Core.Path.{_≡_, sym, _∙_}
+use mathlib.Core.Bool.{true, false, false≢true}
 use Prim.Native.Nat.{ℕ, _<_, _≤_}
 use native.Mathlib.Decide.{decLe}
 use native.Mathlib.Omega.{arith}
 use lib.Dec.{leb}
 use lib.IntN.{ℤ}
 use borrow.Author.Tests.{leb-true, le-leb, lt-leb}
-use Rattle.raster.specs.Distance.{apart, Near}
-use Rattle.raster.specs.DistanceLaws.{apart-self}
+use Rattle.raster.specs.Distance.{apart, Clear, Near}
 use Rattle.raster.specs.Limits.{maxSide, maxQ}
 use Rattle.raster.specs.LoopLaws.{any-found, any-true}
 use Rattle.raster.specs.Map.{dxAt, dyAt}
@@ -19,7 +18,7 @@ use Rattle.raster.specs.Vector.{size}
 use Rattle.raster.specs.VectorLaws.{unlabelled-size, ends-size}
 use Rattle.exact.specs.Nearest.{Exact, to-nearest, bare-sheet, exactMap}
 use Rattle.exact.proofs.Theorems.{is-exact}
-use Rattle.morphology.specs.Resize.{near, bareOf, stays}
+use Rattle.morphology.specs.Resize.{near}
 
 module _ (copper : Mask) (w h q x y : ℕ) where
   pub near-found : near copper w h q x y ≡ true → Near copper w h x y q
@@ -36,6 +35,12 @@ module _ (copper : Mask) (w h q x y : ℕ) where
   pub near-true : Near copper w h x y q → near copper w h q x y ≡ true
   unfolding near
   near-true n = any-true w _ (n .column) (n .copper .across) (any-true h _ (n .row) (n .copper .down) (simp (n .copper .is-copper, le-leb (apart x y (n .column) (n .row)) q (n .within))))
+
+  pub near-clear : near copper w h q x y ≡ false → Clear copper w h x y q
+  near-clear e i j c = elim (decLe (apart x y i j) q) [
+    | yes l ↦ absurd (false≢true (sym e ∙ near-true (record { column = i; row = j; copper = c; within = l })))
+    | no l ↦ omega arith
+  ]
 
   pub near-false : (Near copper w h x y q → ⊥) → near copper w h q x y ≡ false
   near-false far = same (near copper w h q x y) false (λ e. absurd (far (near-found e))) (λ e. absurd (false≢true e))
@@ -58,11 +63,3 @@ module _ (copper : Mask) (w h q x y : ℕ) where
       ]
       go (bare-sheet bare u) =
           lt-leb _ q (omega (arith, unlabelled-size vx vy u)) ∙ sym (near-false (λ c. bare (c .column) (c .row) (c .copper)))
-
--- a bare pixel is near a bare one, itself: so what stays is what no bare pixel is near
-pub stays-is : (copper : Mask) (w h q x y : ℕ) → x < w → y < h → stays copper w h q x y ≡ not (near (bareOf copper) w h q x y)
-stays-is copper w h q x y across down = go (copper x y) refl
-  where
-    go : (t : Bool) → copper x y ≡ t → t && not (near (bareOf copper) w h q x y) ≡ not (near (bareOf copper) w h q x y)
-    go true e = refl
-    go false e = rw (near-true (bareOf copper) w h q x y (record { column = x; row = y; copper = record { across = across; down = down; is-copper = rw e }; within = omega (arith, apart-self x y) }))

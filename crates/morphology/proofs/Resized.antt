@@ -1,23 +1,25 @@
 -- The sheet written by the sizes of the exact map is the one expanded; by those of the map of the sheet turned round, the one shrunk.
 -- Assumes nothing.
 use mathlib.Core.Path.{_≡_, refl, sym, ap, _∙_}
-use mathlib.Core.Bool.{Bool, true, false, not, cond}
+use mathlib.Core.Bool.{Bool, true, false, not, cond, _&&_}
 use mathlib.Core.List.{List}
-use Prim.Native.Nat.{ℕ, _*_, _<_, _≤_}
+use Prim.Native.Nat.{ℕ, _+_, _*_, _<_, _≤_}
 use native.Mathlib.Omega.{arith}
-use lib.Dec.{eqb, leb}
+use lib.Dec.{eqb}
 use lib.ListN.{length, getD}
-use Rattle.raster.specs.Distance.{Near}
+use borrow.Author.Tests.{le-leb, lt-ltb}
+use Rattle.raster.specs.Distance.{Near, Copper}
+use Rattle.raster.specs.DistanceLaws.{apart-self}
 use Rattle.raster.specs.Limits.{maxSide, maxQ}
-use Rattle.raster.specs.Map.{sizeAt}
 use Rattle.raster.specs.Pixels.{Mask, index}
-use Rattle.raster.specs.PixelsLaws.{index-inside, tabulate-length, tabulate-at, pixels-is}
+use Rattle.raster.specs.PixelsLaws.{index-inside, tabulate-at, pixels-length, pixels-at, pixels-is}
 use Rattle.raster.specs.Sheet.{copperOf}
 use Rattle.raster.specs.Tests.{same}
 use Rattle.exact.specs.Nearest.{exactMap}
-use Rattle.morphology.specs.Resize.{near, bareOf, expanded, shrunk}
-use Rattle.morphology.specs.Threshold.{turned, flipped, thresholded}
-use Rattle.morphology.proofs.Near.{near-found, near-true, size-near, stays-is}
+use Rattle.morphology.specs.Resize.{near, bareOf, farFromRim, stays, expanded, shrunk}
+use Rattle.morphology.specs.Threshold.{turned, flipped, inner, thresholded, RootUpTo}
+use Rattle.morphology.proofs.Near.{near-found, near-true, size-near}
+use Rattle.morphology.proofs.Rim.{inner-is}
 
 -- ---- the sheet turned round
 
@@ -41,32 +43,54 @@ near-same a b w h q x y agree =
         let c = n .copper in
         record { column = n .column; row = n .row; copper = record { across = c .across; down = c .down; is-copper = sym (agree (n .column) (n .row) (c .across) (c .down)) ∙ c .is-copper }; within = n .within }
 
+-- copper is near itself, however small q
+near-self : (copper : Mask) (w h q x y : ℕ) → Copper copper w h x y → near copper w h q x y ≡ true
+near-self copper w h q x y c = near-true copper w h q x y (record { column = x; row = y; copper = c; within = omega (arith, apart-self x y) })
+
+-- a bare pixel is near a bare one, so that no test of the copper is needed
+stays-is : (copper : Mask) (w h q x y : ℕ) → x < w → y < h → stays copper w h q x y ≡ not (near (bareOf copper) w h q x y) && farFromRim w h q x y
+stays-is copper w h q x y across down = go (copper x y) refl
+  where
+    rest : Bool
+    rest = not (near (bareOf copper) w h q x y) && farFromRim w h q x y
+
+    go : (t : Bool) → copper x y ≡ t → t && rest ≡ rest
+    go true e = refl
+    go false e = rw (near-self (bareOf copper) w h q x y (record { across = across; down = down; is-copper = rw e }))
+
 -- ---- by the sizes
 
 module _ (w h q : ℕ) (wide : w ≤ maxSide) (tall : h ≤ maxSide) (small : q ≤ maxQ) where
-  level-at : (copper : Mask) (v x y : ℕ) → x < w → y < h
-      → getD (thresholded (exactMap copper w h) q v (h * w)) (index w x y) 0 ≡ cond (near copper w h q x y) v (turned v)
+  -- a sheet written by an exact map, pixel by pixel
+  level-at : (copper : Mask) (v rim x y : ℕ) → x < w → y < h
+      → getD (thresholded (exactMap copper w h) w h q v rim) (index w x y) 0
+      ≡ cond (inner rim h y && inner rim w x) (cond (near copper w h q x y) v (turned v)) v
   unfolding thresholded
-  level-at copper v x y a b =
-      tabulate-at (h * w) (λ p. cond (leb (sizeAt (exactMap copper w h) p) q) v (turned v)) (index w x y) 0 (index-inside w x y a h b)
-      ∙ ap (λ (t : Bool). cond t v (turned v)) (size-near copper w h q x y wide tall a b small)
+  level-at copper v rim x y a b =
+      pixels-at w h _ x y 0 a b
+      ∙ ap (λ (t : Bool). cond (inner rim h y && inner rim w x) (cond t v (turned v)) v) (size-near copper w h q x y wide tall a b small)
 
-  thresholded-length : (copper : Mask) (v : ℕ) → length (thresholded (exactMap copper w h) q v (h * w)) ≡ h * w
+  thresholded-length : (copper : Mask) (v rim : ℕ) → length (thresholded (exactMap copper w h) w h q v rim) ≡ h * w
   unfolding thresholded
-  thresholded-length copper v = tabulate-length (h * w) _
+  thresholded-length copper v rim = pixels-length w h _
 
-  pub expands : (s : List ℕ) → thresholded (exactMap (copperOf s w) w h) q 1 (h * w) ≡ expanded w h q s
+  pub expands : (s : List ℕ) → thresholded (exactMap (copperOf s w) w h) w h q 1 0 ≡ expanded w h q s
   unfolding expanded
-  expands s = pixels-is w h _ _ 0 (thresholded-length (copperOf s w) 1) (λ x y a b. level-at (copperOf s w) 1 x y a b)
+  expands s = pixels-is w h _ _ 0 (thresholded-length (copperOf s w) 1 0) (λ x y a b.
+      level-at (copperOf s w) 1 0 x y a b
+      ∙ rw (le-leb 0 y (omega arith), lt-ltb (y + 0) h (omega arith), le-leb 0 x (omega arith), lt-ltb (x + 0) w (omega arith)))
 
-  pub shrinks : (s : List ℕ) → length s ≡ h * w → thresholded (exactMap (copperOf (flipped s) w) w h) q 0 (h * w) ≡ shrunk w h q s
+  pub shrinks : (s : List ℕ) {rim : ℕ} → length s ≡ h * w → RootUpTo w q rim
+      → thresholded (exactMap (copperOf (flipped s) w) w h) w h q 0 rim ≡ shrunk w h q s
   unfolding shrunk
-  shrinks s whole = pixels-is w h _ _ 0 (thresholded-length (copperOf (flipped s) w) 0) (λ x y a b.
-      level-at (copperOf (flipped s) w) 0 x y a b
-      ∙ ap (λ (t : Bool). cond {A = ℕ} t 0 1) (near-same (copperOf (flipped s) w) (bareOf (copperOf s w)) w h q x y (λ i j k l. flipped-copper s w h i j whole k l))
-      ∙ swap (near (bareOf (copperOf s w)) w h q x y)
+  shrinks s {rim} whole root = pixels-is w h _ _ 0 (thresholded-length (copperOf (flipped s) w) 0 rim) (λ x y a b.
+      let bare = near-same (copperOf (flipped s) w) (bareOf (copperOf s w)) w h q x y (λ i j k l. flipped-copper s w h i j whole k l) in
+      level-at (copperOf (flipped s) w) 0 rim x y a b
+      ∙ rw (inner-is w h x y a b root, bare) (swap (near (bareOf (copperOf s w)) w h q x y) (farFromRim w h q x y))
       ∙ ap (λ (t : Bool). cond {A = ℕ} t 1 0) (sym (stays-is (copperOf s w) w h q x y a b)))
     where
-      swap : (t : Bool) → _≡_ {A = ℕ} (cond t 0 1) (cond (not t) 1 0)
-      swap true = refl
-      swap false = refl
+      swap : (n r : Bool) → _≡_ {A = ℕ} (cond r (cond n 0 1) 0) (cond (not n && r) 1 0)
+      swap true true = refl
+      swap true false = refl
+      swap false true = refl
+      swap false false = refl

@@ -1,13 +1,13 @@
 -- What the code does to a sheet: turned round, and written anew by the sizes of a map.
 -- Assumes nothing.
-use mathlib.Core.Bool.{cond}
+use mathlib.Core.Bool.{Bool, cond, _&&_}
 use mathlib.Core.List.{List}
-use Prim.Native.Nat.{ℕ}
-use lib.Dec.{eqb, leb}
+use Prim.Native.Nat.{ℕ, _+_, _*_, _≤_, _<_}
+use lib.Dec.{eqb, leb, ltb}
 use lib.IntN.{ℤ}
 use lib.ListN.{length, getD}
 use Rattle.raster.specs.Map.{sizeAt}
-use Rattle.raster.specs.Pixels.{tabulate}
+use Rattle.raster.specs.Pixels.{index, tabulate, pixels}
 
 -- bare becomes copper, copper bare
 abbrev pub turned : ℕ → ℕ
@@ -16,6 +16,24 @@ turned byte = cond (eqb byte 0) 1 0
 unfoldable pub flipped : List ℕ → List ℕ
 flipped s = tabulate (length s) (λ p. turned (getD s p 0))
 
--- each of n pixels is `near` where its size is at most q, turned elsewhere
-unfoldable pub thresholded : List ℤ → (q near n : ℕ) → List ℕ
-thresholded m q near n = tabulate n (λ p. cond (leb (sizeAt m p) q) near (turned near))
+-- what pixel p becomes by its size: `near` where that is at most q, and elsewhere `near` turned
+abbrev pub levelAt : List ℤ → (q near p : ℕ) → ℕ
+levelAt m q near p = cond (leb (sizeAt m p) q) near (turned near)
+
+-- place t of a line of n places is an inner one: `rim` places or more lie on either side of it
+abbrev pub inner : (rim n t : ℕ) → Bool
+inner rim n t = leb rim t && ltb (t + rim) n
+
+-- what pixel (x, y) becomes: `near` in the first and last `rim` rows and columns of the sheet, by its size elsewhere
+abbrev pub thresholdedAt : List ℤ → (w h q near rim : ℕ) → ℕ → ℕ → ℕ
+thresholdedAt m w h q near rim x y = cond (inner rim h y && inner rim w x) (levelAt m q near (index w x y)) near
+
+-- the sheet of these
+unfoldable pub thresholded : List ℤ → (w h q near rim : ℕ) → List ℕ
+thresholded m w h q near rim = pixels w h (thresholdedAt m w h q near rim)
+
+-- r is the integer square root of q, or n where that is less
+pub record RootUpTo (n q r : ℕ) : Type 0 where
+  pub on : r ≤ n
+  pub square : r * r ≤ q
+  pub last : r < n → q < (r + 1) * (r + 1)

@@ -4,6 +4,7 @@ pub mod Pixels
 pub mod Distance
 pub mod Sheet
 pub mod Vector
+pub mod Place
 pub mod Map
 pub mod Loop
 pub mod Rows

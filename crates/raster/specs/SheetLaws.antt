@@ -20,7 +20,7 @@ use Rattle.raster.specs.Tests.{and-left, and-right, same, cond-ind}
 -- ---- a span of places
 
 module _ (p n v : ℕ) (s : List ℕ) (room : p + n ≤ length s) where
-  spanned-length : length (spanned p n v s) ≡ length s
+  pub spanned-length : length (spanned p n v s) ≡ length s
   unfolding spanned
   spanned-length = simp (length-append, length-take-le p s (omega arith), length-replicate, length-drop) (omega arith)
 
@@ -32,12 +32,12 @@ module _ (p n v : ℕ) (s : List ℕ) (room : p + n ≤ length s) where
       let e : length (take p s) + (i - p) ≡ i = omega arith in
       sym (ap (λ (k : ℕ). getD (take p s ++ (replicate n v ++ drop (p + n) s)) k 0) e) ∙ getD-append-add (take p s) _ (i - p) 0
 
-  spanned-in : (i : ℕ) → p ≤ i → i < p + n → getD (spanned p n v s) i 0 ≡ v
+  pub spanned-in : (i : ℕ) → p ≤ i → i < p + n → getD (spanned p n v s) i 0 ≡ v
   spanned-in i h k =
       past i h ∙ List·getD-append (replicate n v) _ 0 (i - p) (omega (arith, length-replicate n v)) ∙ getD-replicate n (i - p) v 0 (omega arith)
 
   -- every other place is as it was
-  spanned-out : (i : ℕ) → (i < p) ⊎ (p + n ≤ i) → getD (spanned p n v s) i 0 ≡ getD s i 0
+  pub spanned-out : (i : ℕ) → (i < p) ⊎ (p + n ≤ i) → getD (spanned p n v s) i 0 ≡ getD s i 0
   unfolding spanned
   spanned-out i (inl h) = List·getD-append (take p s) _ 0 i (omega (arith, length-take-le p s (omega arith))) ∙ getD-take p s i 0 h
   spanned-out i (inr h) =

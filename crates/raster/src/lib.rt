@@ -130,7 +130,7 @@ pub fn clear_sheet(sheet: &mut [u8])
 }
 
 // Writes v at n places from `start` on.
-fn fill_span(sheet: &mut [u8], start: usize, n: usize, v: u8)
+pub fn fill_span(sheet: &mut [u8], start: usize, n: usize, v: u8)
     requires { ⌜ start + n ≤ length (now sheet) ⌝ }
     ensures { λ _. ⌜ now (sheet .exit) ≡ spanned start n v (now (sheet .entry)) ⌝ }
 {

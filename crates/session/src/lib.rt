@@ -272,7 +272,7 @@ impl Session {
         reply
     }
 
-    // A copper pixel stays if every bare pixel of the sheet is at squared distance above q.
+    // Copper stays where no bare pixel of the sheet and no place off it is within squared distance q.
     pub fn shrink(mut self, sheet: &mut [u8], map: &mut [i16], scratch: &mut [i16], q: u32) -> Reply
         ensures answered { λ r. ⌜ r .answer ≡ firstOf (resizeTable self (now (sheet .entry)) (now (map .entry)) (now (scratch .entry)) q) ⌝ }
         ensures handed_back { λ r. ⌜ r .session ≡ onDone (r .answer) (stale self) self ⌝ }

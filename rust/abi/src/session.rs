@@ -190,8 +190,8 @@ impl Session {
         unsafe { ffi::abi_session_expand(self, sheet.as_mut_ptr(), sheet.len(), map, map_len, scratch.as_mut_ptr(), scratch.len(), q) }
     }
 
-    /// Shrinks the sheet by q: a copper pixel is 1 afterwards if every bare pixel of the sheet is at squared distance above q, all else is
-    /// 0. Otherwise as [`Session::expand`].
+    /// Shrinks the sheet by q: a pixel is 0 afterwards if a bare pixel or a place off the sheet is at squared distance at most q from it,
+    /// otherwise 1. All else as [`Session::expand`] leaves it, with the same refusals.
     pub fn shrink(self, sheet: &mut [u8], map: &mut [i16], scratch: &mut [i16], q: u32) -> Reply {
         let (map, map_len) = (map.as_mut_ptr(), map.len());
         // SAFETY: as in `expand`.

@@ -31,6 +31,7 @@ on_either!(
     m1_to_m4,
     m5_and_m6,
     m7,
+    c14,
     c16,
     limits,
     sides_that_no_sheet_has,
@@ -105,6 +106,22 @@ fn m7<S: Calls>() {
     assert_eq!(told(S::from(session).skeleton(&map, &mut kept)), (0, session));
     assert_eq!(told(S::from(session).rebuild(&map, &kept, &mut bare)), (0, session));
     assert_eq!((kept, bare), ([0, 0, 1, 0, 0], [0, 1, 1, 1, 0]));
+}
+
+/// Copper at the rim goes by 1 and stays by 0. For expand and the gate there is nothing beyond the rim.
+fn c14<S: Calls>() {
+    let board = boards::c14();
+    for (q, rest) in [(0, [1; 9]), (1, [0, 0, 0, 0, 1, 0, 0, 0, 0])] {
+        let (session, mut map) = built::<S>(&board, 1);
+        let mut sheet = board.sheet.clone();
+        assert_eq!(S::from(session).shrink(&mut sheet, &mut map, &mut [9; 9], q).0, 0);
+        assert_eq!(sheet, rest, "by {q}");
+    }
+    let (session, mut map) = built::<S>(&Board::bare(3, 3), 1);
+    assert_eq!(S::from(session).place(&map, 0, 0, 4_194_304).0, 0);
+    let mut sheet = [0; 9];
+    assert_eq!(S::from(session).expand(&mut sheet, &mut map, &mut [9; 9], 4_194_304).0, 0);
+    assert_eq!(sheet, [0; 9]);
 }
 
 /// Of two that are equally far the quick maps have the one with the larger dx; the exact map keeps its own choice.
@@ -224,8 +241,8 @@ fn expand_and_shrink<S: Calls>() {
     assert!(map.iter().all(|&number| number == -32_768) && scratch[..16] == [0; 16] && scratch[16] == 9);
     assert_eq!(told(after.shrink(&mut sheet, &mut map, &mut scratch, 4_194_305)), (15, stale));
     assert_eq!(told(after.shrink(&mut sheet, &mut map, &mut scratch[..15], 0)), (12, stale));
-    assert_eq!(told(after.shrink(&mut sheet, &mut map, &mut scratch, 2)), (0, stale));
-    assert_eq!(sheet, [0, 0, 0, 1, 0, 0, 0, 1, 0, 0, 1, 1, 1, 1, 1, 1]);
+    assert_eq!(told(after.shrink(&mut sheet, &mut map, &mut scratch, 1)), (0, stale));
+    assert_eq!(sheet, [0, 0, 0, 0, 0, 0, 1, 0, 0, 1, 1, 0, 0, 0, 0, 0]);
 }
 
 /// A row is a part of the lent map, and an empty part is that from its start.

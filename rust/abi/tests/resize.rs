@@ -59,15 +59,22 @@ fn compare(name: &str, call: Call, board: &Board, q: u32, expected: &[u8], rando
     }
 }
 
+/// How many steps lead from the pixel (x, y) straight across the nearest side of the sheet.
+fn steps_off(x: usize, y: usize, w: usize, h: usize) -> usize {
+    (x + 1).min(w - x).min(y + 1).min(h - y)
+}
+
 /// Any q: the least and the greatest, and more often one that matters on the board.
 fn any_q(board: &Board, random: &mut Random) -> u32 {
     let farthest = (board.w.pow(2) + board.h.pow(2)) as u64;
-    let q = match random.below(10) {
+    let q = match random.below(12) {
         0 => random.below(3),
         1 => LIMIT.into(),
         2 => random.below(u64::from(LIMIT) + 1),
         3 => farthest + random.below(3),
         4 | 5 => random.below(farthest),
+        // for the rim: the square of some steps off the sheet, or one less
+        6 | 7 => random.below(board.w.min(board.h) as u64 / 2 + 3).pow(2).saturating_sub(random.below(2)),
         _ => random.below(30),
     };
     q.min(LIMIT.into()) as u32
@@ -105,17 +112,17 @@ fn all_tiny() {
     }
 }
 
-/// No copper and no bare pixel: there is nothing to go by, however far.
+/// No copper, and expand with no bare pixel: the sheet stays as it is, by any q.
 #[test]
 fn all_alike() {
     let mut random = Random::new(73);
     for (w, h) in [(1, 1), (1, 7), (7, 1), (5, 4), (2_048, 1), (1, 2_048), (2_048, 2_048)] {
         for q in [0, 1, 2, 1_000, LIMIT] {
+            let bare = Board::bare(w, h);
             for What { name, call, .. } in BOTH {
-                compare(name, call, &Board::bare(w, h), q, &vec![0; w * h], &mut random);
-                let full = Board::bare(w, h).turned_round(&mut random);
-                compare(name, call, &full, q, &vec![1; w * h], &mut random);
+                compare(name, call, &bare, q, &bare.sheet, &mut random);
             }
+            compare("expand", Session::expand, &bare.turned_round(&mut random), q, &vec![1; w * h], &mut random);
             // the largest once, for it takes longer
             if w * h > 1 << 20 {
                 break;
@@ -124,12 +131,37 @@ fn all_alike() {
     }
 }
 
+/// Shrink on a sheet without a bare pixel, which has the rim alone to go by.
+fn check_rim(w: usize, h: usize, q: u32, random: &mut Random) {
+    let full = Board::bare(w, h).turned_round(random);
+    let rest = boards::drawn(w, h, |x, y| steps_off(x, y, w, h).pow(2) > q as usize);
+    compare("shrink", Session::shrink, &full, q, &rest.sheet, random);
+}
+
+/// Wide and narrow sheets by the squares of the steps off the sheet, by one less and by the greatest q.
+#[test]
+fn rim() {
+    let mut random = Random::new(78);
+    let small = (1..=12).flat_map(|w| (1..=12).map(move |h| (w, h)));
+    let narrow = [1, 2, 3, 10].into_iter().flat_map(|n| [(2_048, n), (n, 2_048), (100, n), (n, 100)]);
+    for (w, h) in small.chain(narrow).chain([(63, 64), (64, 31)]) {
+        let squares = (0..=w.min(h) / 2 + 2).map(|steps| (steps * steps) as u32);
+        for q in squares.flat_map(|square| [square.saturating_sub(1), square]).chain([LIMIT]) {
+            check_rim(w, h, q, &mut random);
+        }
+    }
+    // in the middle of the largest sheet are four pixels with 1,024 steps off it
+    for q in [0, 1_048_575, 1_048_576] {
+        check_rim(2_048, 2_048, q, &mut random);
+    }
+}
+
 #[test]
 fn lines() {
     let mut random = Random::new(74);
     for turn in 0..100 {
         let n = if turn < 20 { 2_048 } else { random.between(1, 2_048) };
-        for (w, h) in [(n, 1), (1, n), (n, 2), (2, n)] {
+        for (w, h) in [(n, 1), (1, n), (n, 2), (2, n), (n, 3), (3, n)] {
             let board = any_board(w, h, &mut random);
             let q = any_q(&board, &mut random);
             check(&board, q, &mut random);
@@ -162,7 +194,8 @@ fn large() {
     }
 }
 
-/// On the largest sheet a single pixel in a corner: a quarter of a disk around it becomes copper, or bare.
+/// On the largest sheet a single copper pixel in a corner becomes a quarter of a disk, and a single bare pixel takes off a disk, besides
+/// what goes along the rim.
 #[test]
 fn largest() {
     let mut random = Random::new(77);
@@ -171,9 +204,9 @@ fn largest() {
         let disk = boards::drawn(2_048, 2_048, |x, y| far(x, y, corner) <= q);
         compare("expand", Session::expand, &Board::with(2_048, 2_048, &[corner]), q, &disk.sheet, &mut random);
     }
-    for (corner, q) in [((2_047, 0), LIMIT), ((0, 2_047), 4_190_208)] {
-        let board = Board::with(2_048, 2_048, &[corner]).turned_round(&mut random);
-        let rest = boards::drawn(2_048, 2_048, |x, y| far(x, y, corner) > q);
+    for (pixel, q) in [((700, 1_100), 250_000), ((2_047, 900), 302_500)] {
+        let board = Board::with(2_048, 2_048, &[pixel]).turned_round(&mut random);
+        let rest = boards::drawn(2_048, 2_048, |x, y| far(x, y, pixel) > q && steps_off(x, y, 2_048, 2_048).pow(2) > q as usize);
         compare("shrink", Session::shrink, &board, q, &rest.sheet, &mut random);
     }
 }

@@ -114,12 +114,12 @@ fn largest_q() {
         assert!(list.session().lowered && list.session().current);
     }
     let mut list = painted(&Board::with(3, 2, &[(1, 1)]), &mut random);
-    answers(&mut list, [(Call::Shrink { q: 0 }, 0), (Call::Expand { q: limit }, 0), (Call::Shrink { q: limit }, 0)], &mut random);
+    answers(&mut list, [(Call::Shrink { q: 0 }, 0), (Call::Expand { q: limit }, 0), (Call::Shrink { q: 0 }, 0)], &mut random);
     assert_eq!(list.sheet, [1; 6]);
-    answers(&mut list, [(Call::Erase { x: 0, y: 0, w: 1, h: 1 }, 0), (Call::Shrink { q: limit }, 0)], &mut random);
-    assert_eq!(list.sheet, [0; 6]);
-    answers(&mut list, [(Call::Expand { q: limit }, 0)], &mut random);
-    assert_eq!(list.sheet, [0; 6]);
+    for call in [Call::Shrink { q: limit }, Call::Expand { q: limit }] {
+        answers(&mut list, [(call, 0)], &mut random);
+        assert_eq!(list.sheet, [0; 6], "{call:?}");
+    }
 }
 
 /// A run with copper in its way leaves the cutter where it was; paint and every other change of the copper lifts it.

@@ -49,17 +49,20 @@ mod tests {
         }
     }
 
+    /// Expand and shrink on a board and on the board turned round.
     fn check_resize(board: &Board, random: &mut Random) {
-        let &Board { w, h, ref sheet } = board;
-        let q = [random.below(30), random.below((w * w + h * h) as u64), 4_194_304][random.below(3) as usize] as u32;
-        let expected = [model::resize::expand_by_map, model::resize::shrink_by_map].map(|resize| resize(sheet, w, h, q));
-        for (resize, expected) in [plain_resize::expand, plain_resize::shrink].into_iter().zip(expected) {
-            let mut sheet = sheet.clone();
-            let mut map = anything(2 * w * h, random);
-            let mut scratch = anything(w * h, random);
-            resize(&mut sheet, &mut map, &mut scratch, w, h, q);
-            assert!(sheet == expected, "q {q}: {board:?}");
-            assert!(map.iter().all(|&number| number == -32_768) && scratch.iter().all(|&number| number == 0), "q {q}: {board:?}");
+        for board in [board, &board.turned_round(random)] {
+            let &Board { w, h, ref sheet } = board;
+            let q = [random.below(30), random.below((w * w + h * h) as u64), 4_194_304][random.below(3) as usize] as u32;
+            let expected = [model::resize::expand_by_map, model::resize::shrink_by_map].map(|resize| resize(sheet, w, h, q));
+            for (resize, expected) in [plain_resize::expand, plain_resize::shrink].into_iter().zip(expected) {
+                let mut sheet = sheet.clone();
+                let mut map = anything(2 * w * h, random);
+                let mut scratch = anything(w * h, random);
+                resize(&mut sheet, &mut map, &mut scratch, w, h, q);
+                assert!(sheet == expected, "q {q}: {board:?}");
+                assert!(map.iter().all(|&number| number == -32_768) && scratch.iter().all(|&number| number == 0), "q {q}: {board:?}");
+            }
         }
     }
 

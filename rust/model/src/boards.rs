@@ -110,6 +110,11 @@ pub fn m7() -> Board {
     Board::with(5, 1, &[(0, 0), (4, 0)])
 }
 
+/// The 3 × 3 board of document 02 (C-14).
+pub fn c14() -> Board {
+    full(3, 3)
+}
+
 /// The 2 × 2 board of document 02 (C-16).
 pub fn c16() -> Board {
     Board::with(2, 2, &[(1, 0), (0, 1)])

@@ -24,14 +24,19 @@ fn apart((x, y): Pixel, (column, row): Pixel) -> u64 {
 }
 
 /// The pixels of a rectangle.
-fn rectangle(corner: [u16; 2], sides: [u16; 2]) -> impl Iterator<Item = Pixel> {
-    let ([x, y], [w, h]) = (corner.map(i64::from), sides.map(i64::from));
+fn rectangle<N: Into<i64>>(corner: [N; 2], sides: [N; 2]) -> impl Iterator<Item = Pixel> {
+    let ([x, y], [w, h]) = (corner.map(N::into), sides.map(N::into));
     (y..y + h).flat_map(move |row| (x..x + w).map(move |column| (column, row)))
 }
 
 impl Board {
     fn pixels(&self) -> impl Iterator<Item = Pixel> {
         rectangle([0, 0], [self.w, self.h])
+    }
+
+    /// The pixels of the sheet and of a frame of one around it. Any beyond is farther from the whole sheet than the frame's nearest to it.
+    fn framed(&self) -> impl Iterator<Item = Pixel> {
+        rectangle([-1, -1], [self.w, self.h].map(|side| i64::from(side) + 2))
     }
 
     /// Whether some copper is within q of a pixel.
@@ -67,7 +72,7 @@ impl Board {
             Call::Lift => self.cutter = None,
             Call::Expand { q } => self.copper = self.pixels().filter(|&pixel| self.near(pixel, q.into())).collect(),
             Call::Shrink { q } => {
-                let bare: Vec<Pixel> = self.pixels().filter(|pixel| !self.copper.contains(pixel)).collect();
+                let bare: Vec<Pixel> = self.framed().filter(|pixel| !self.copper.contains(pixel)).collect();
                 self.copper.retain(|&pixel| bare.iter().all(|&bare| apart(bare, pixel) > q.into()));
             }
             Call::Skeleton | Call::Rebuild => {}

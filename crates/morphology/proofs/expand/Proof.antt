@@ -1,6 +1,6 @@
 -- `morphology::expand` meets its contract: by the sizes of the exact map the sheet is the one expanded (`expands`).
 -- Assumes nothing.
-use mathlib.Core.Path.{ap, ap₂, _∙_}
+use mathlib.Core.Path.{ap, _∙_}
 use mathlib.Core.List.{List}
 use Prim.Native.Nat.{ℕ}
 use lib.IntN.{ℤ}
@@ -19,7 +19,7 @@ returns c =
     let s = e .before .before .before .before .before in
     let a = s .args in (
       t .threshold .ensures
-          ∙ ap₂ (λ (m : List ℤ) (n : ℕ). thresholded m (a .q) 1 n) (e .exact .ensures .0) (s .pre .1 .0)
+          ∙ ap (λ (m : List ℤ). thresholded m (a .w) (a .h) (a .q) 1 0) (e .exact .ensures .0)
           ∙ expands (a .w) (a .h) (a .q) (s .pre .0 .0) (s .pre .0 .1 .0) (s .pre .0 .1 .1) (a .sheet .now),
       (c .before .clear-map .ensures ∙ ap (λ (n : ℕ). replicate n mark) (e .exact .kept .1 .0), e .exact .ensures .1),
     )
