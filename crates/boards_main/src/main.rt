@@ -2,7 +2,7 @@
 // two vectors have one size, and of sheets of one row and one column; the exact maps of document 01's boards M1, M5 and M6; both maps of a sheet of 14 × 8
 // whose three copper pixels stand like an arrow-head: there 8SED is wrong at pixel (0, 0), where it finds the size 170 and the true one is 169; sheets with
 // the skeleton of their exact maps and the sheet rebuilt from it, which is the bare pixels again: M7, and a board of 24 × 9 with two pads, a track between
-// them and a via; and the README's example.
+// them and a via; document 02's 3 × 3 board shrunk by 1, of which its middle is left, and by 0, which leaves it whole; and the README's example.
 ghost use mathlib.Core.Path.{_≡_};
 ghost use Prim.Native.Nat.{_+_, _*_, _≤_, _<_};
 ghost use lib.ListN.{length};
@@ -237,6 +237,18 @@ fn drawn() {
     show_skeleton(&sheet, &mut map, &mut scratch, &mut marks, &mut out, 24, 9);
 }
 
+// ---- a sheet of 3 × 3, copper everywhere, shrunk by q
+
+fn shrunk_whole(q: u32)
+    requires { ⌜ q ≤ 1 ⌝ }
+{
+    let mut sheet = [1u8; 9];
+    let mut map = [0i16; 18];
+    let mut scratch = [0i16; 9];
+    morphology::shrink(&mut sheet, &mut map, &mut scratch, 3, 3, q);
+    picture(&sheet, 3, 3);
+}
+
 // ---- the session: a sheet of 4 × 4 with one copper pixel at (3, 0), its exact map, and two cutters at (0, 0), where the size is 9
 
 fn say(answer: u32) {
@@ -270,5 +282,7 @@ fn main() {
     arrow_head();
     five_in_a_row();
     drawn();
+    shrunk_whole(1);
+    shrunk_whole(0);
     readme();
 }

@@ -33,7 +33,7 @@ past-line side t l = omega (arith, way-abs t side)
 no-way : (t : ℕ) → natAbs (pos t -ℤ pos t) ≡ 0
 no-way t = way-abs t t ∙ gap-self t
 
--- a place off the line is at least so many steps away
+-- a place off the line is no nearer than its two ends
 off-line : (side t : ℕ) (z : ℤ) → inLine side z ≡ false → min (t + 1) (side - t) ≤ natAbs (z -ℤ pos t)
 unfolding gap
 off-line side t (pos i) e = omega (arith, way-abs t i, ltb-false i side e)
@@ -67,7 +67,7 @@ module _ (w h x y : ℕ) (across : x < w) (down : y < h) where
       go false f g = let l : n ≤ dx = omega (arith, off-line w x (p .0) f) in omega (arith, square-le l)
       go true f g = let l : n ≤ dy = omega (arith, off-line h y (p .1) g) in omega (arith, square-le l)
 
-  -- and straight across each side lies one
+  -- and straight across each side lies one, so that `stepsOff` is above q where all of them are
   across-sides : (q : ℕ) → ((p : ℤ × ℤ) → isPixel w h p ≡ false → q < apartFrom x y p) → q < stepsOff w h x y * stepsOff w h x y
   unfolding stepsOff size
   across-sides q far =
@@ -89,7 +89,7 @@ module _ (w h x y : ℕ) (across : x < w) (down : y < h) where
       bottom = omega (arith, far (pos x, pos h) (rw (lt-ltb x w across, le-ltb h h (omega arith))), squared (no-way x), squared (past-line h y down))
 
   module _ (copper : Mask) (q : ℕ) where
-    -- what C-14 says, and its test
+    -- the test holds exactly if the rule does
     pub stays-says : stays copper w h q x y ≡ true → Stays copper w h q x y
     stays-says e =
         let r = and-right (copper x y) _ e in record {
