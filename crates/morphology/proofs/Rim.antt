@@ -7,7 +7,7 @@ use native.Mathlib.Decide.{decLe}
 use native.Mathlib.Omega.{arith, min-cases}
 use lib.Dec.{leb}
 use lib.IntN.{ℤ, pos, negsuc, natAbs, _-ℤ_, +ℤ-idr}
-use borrow.Author.Tests.{leb-true, ltb-true, ltb-false, le-leb, lt-ltb, le-ltb}
+use borrow.Author.Tests.{leb-true, ltb-true, ltb-false, le-leb, lt-ltb, le-ltb, not-true}
 use Rattle.raster.specs.Distance.{gap}
 use Rattle.raster.specs.DistanceLaws.{gap-self, square-le}
 use Rattle.raster.specs.Pixels.{Mask}
@@ -97,10 +97,6 @@ module _ (w h x y : ℕ) (across : x < w) (down : y < h) where
           from-bare = near-clear (bareOf copper) w h q x y (not-true _ (and-left _ _ r));
           from-rim = λ p f. omega (arith, far-off p f, ltb-true q _ (and-right (not (near (bareOf copper) w h q x y)) _ r));
         }
-      where
-        not-true : (t : Bool) → not t ≡ true → t ≡ false
-        not-true true e = sym e
-        not-true false e = refl
 
     pub stays-true : Stays copper w h q x y → stays copper w h q x y ≡ true
     stays-true s =

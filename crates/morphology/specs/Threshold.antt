@@ -16,21 +16,21 @@ turned byte = cond (eqb byte 0) 1 0
 unfoldable pub flipped : List ℕ → List ℕ
 flipped s = tabulate (length s) (λ p. turned (getD s p 0))
 
--- what pixel p becomes by its size: `near` where that is at most q, and elsewhere `near` turned
-abbrev pub levelAt : List ℤ → (q near p : ℕ) → ℕ
-levelAt m q near p = cond (leb (sizeAt m p) q) near (turned near)
+-- what pixel p becomes by its size: `v` where that is at most q, and elsewhere `v` turned
+abbrev pub levelAt : List ℤ → (q v p : ℕ) → ℕ
+levelAt m q v p = cond (leb (sizeAt m p) q) v (turned v)
 
 -- place t of a line of n places is an inner one: `rim` places or more lie on either side of it
 abbrev pub inner : (rim n t : ℕ) → Bool
 inner rim n t = leb rim t && ltb (t + rim) n
 
--- what pixel (x, y) becomes: `near` in the first and last `rim` rows and columns of the sheet, by its size elsewhere
-abbrev pub thresholdedAt : List ℤ → (w h q near rim : ℕ) → ℕ → ℕ → ℕ
-thresholdedAt m w h q near rim x y = cond (inner rim h y && inner rim w x) (levelAt m q near (index w x y)) near
+-- what pixel (x, y) becomes: `v` in the first and last `rim` rows and columns of the sheet, by its size elsewhere
+abbrev pub thresholdedAt : List ℤ → (w h q v rim : ℕ) → ℕ → ℕ → ℕ
+thresholdedAt m w h q v rim x y = cond (inner rim h y && inner rim w x) (levelAt m q v (index w x y)) v
 
 -- the sheet of these
-unfoldable pub thresholded : List ℤ → (w h q near rim : ℕ) → List ℕ
-thresholded m w h q near rim = pixels w h (thresholdedAt m w h q near rim)
+unfoldable pub thresholded : List ℤ → (w h q v rim : ℕ) → List ℕ
+thresholded m w h q v rim = pixels w h (thresholdedAt m w h q v rim)
 
 -- r is the integer square root of q, or n where that is less
 pub record RootUpTo (n q r : ℕ) : Type 0 where

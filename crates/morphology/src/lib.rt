@@ -32,26 +32,26 @@ fn inverted(byte: u8) -> u8
     0
 }
 
-// What pixel p becomes: `near` where its size is at most q, and 1 − `near` elsewhere.
-fn level(map: &[i16], p: usize, q: u32, near: u8) -> u8
-    requires { ⌜ Inside p (now map) × (near ≤ 1) ⌝ }
-    ensures { λ r. ⌜ r ≡ levelAt (now (map .entry)) q near p ⌝ }
+// What pixel p becomes: `v` where its size is at most q, and 1 − `v` elsewhere.
+fn level(map: &[i16], p: usize, q: u32, v: u8) -> u8
+    requires { ⌜ Inside p (now map) × (v ≤ 1) ⌝ }
+    ensures { λ r. ⌜ r ≡ levelAt (now (map .entry)) q v p ⌝ }
 {
     if raster::size_at(map, p) <= q {
-        return near;
+        return v;
     }
-    inverted(near)
+    inverted(v)
 }
 
 // Writes the pixels from `from` to `to` − 1 by their sizes, as `level` says.
-fn threshold_run(map: &[i16], sheet: &mut [u8], from: usize, to: usize, q: u32, near: u8)
+fn threshold_run(map: &[i16], sheet: &mut [u8], from: usize, to: usize, q: u32, v: u8)
     requires { ⌜ (to ≤ length (now sheet)) × (length (now map) ≡ 2 * length (now sheet)) ⌝ }
-    requires { ⌜ near ≤ 1 ⌝ }
-    ensures { λ _. ⌜ RowWritten from (to - from) (λ i. levelAt (now (map .entry)) q near (from + i)) (now (sheet .entry)) (now (sheet .exit)) ⌝ }
+    requires { ⌜ v ≤ 1 ⌝ }
+    ensures { λ _. ⌜ RowWritten from (to - from) (λ i. levelAt (now (map .entry)) q v (from + i)) (now (sheet .entry)) (now (sheet .exit)) ⌝ }
 {
     let mut p = from;
     while p < to {
-        sheet[p] = level(map, p, q, near);
+        sheet[p] = level(map, p, q, v);
         p += 1;
     }
 }
@@ -64,7 +64,7 @@ fn is_inner(rim: usize, n: usize, t: usize) -> bool
     (rim <= t) & (t + rim < n)
 }
 
-// Writes row y: `near` at the rim, by the sizes elsewhere.
+// Writes row y: `v` at the rim, by the sizes elsewhere.
 fn threshold_row(
     map: &[i16],
     sheet: &mut [u8],
@@ -72,30 +72,30 @@ fn threshold_row(
     h: usize,
     y: usize,
     q: u32,
-    near: u8,
+    v: u8,
     rim: usize,
 )
     requires { ⌜ (w ≤ 2048) × ((h ≤ 2048) × (y < h)) ⌝ }
     requires { ⌜ (length (now sheet) ≡ h * w) × (length (now map) ≡ 2 * (h * w)) ⌝ }
-    requires { ⌜ (near ≤ 1) × (rim ≤ w) ⌝ }
-    ensures { λ _. ⌜ RowWritten (y * w) w (λ x. thresholdedAt (now (map .entry)) w h q near rim x y) (now (sheet .entry)) (now (sheet .exit)) ⌝ }
+    requires { ⌜ (v ≤ 1) × (rim ≤ w) ⌝ }
+    ensures { λ _. ⌜ RowWritten (y * w) w (λ x. thresholdedAt (now (map .entry)) w h q v rim x y) (now (sheet .entry)) (now (sheet .exit)) ⌝ }
 {
     let base = y * w;
-    raster::fill_span(sheet, base, w, near);
+    raster::fill_span(sheet, base, w, v);
     if is_inner(rim, h, y) {
-        threshold_run(map, sheet, base + rim, base + (w - rim), q, near);
+        threshold_run(map, sheet, base + rim, base + (w - rim), q, v);
     }
 }
 
-// Writes every pixel of the sheet: `near` in the first and last `rim` rows and columns, by its size elsewhere.
-fn threshold(map: &[i16], sheet: &mut [u8], w: usize, h: usize, q: u32, near: u8, rim: usize)
+// Writes every pixel of the sheet: `v` in the first and last `rim` rows and columns, by its size elsewhere.
+fn threshold(map: &[i16], sheet: &mut [u8], w: usize, h: usize, q: u32, v: u8, rim: usize)
     requires { ⌜ (w ≤ 2048) × (h ≤ 2048) ⌝ }
     requires { ⌜ (length (now sheet) ≡ h * w) × (length (now map) ≡ 2 * (h * w)) ⌝ }
-    requires { ⌜ (near ≤ 1) × (rim ≤ w) ⌝ }
-    ensures { λ _. ⌜ now (sheet .exit) ≡ thresholded (now (map .entry)) w h q near rim ⌝ }
+    requires { ⌜ (v ≤ 1) × (rim ≤ w) ⌝ }
+    ensures { λ _. ⌜ now (sheet .exit) ≡ thresholded (now (map .entry)) w h q v rim ⌝ }
 {
     for y in 0..h {
-        threshold_row(map, sheet, w, h, y, q, near, rim);
+        threshold_row(map, sheet, w, h, y, q, v, rim);
     }
 }
 

@@ -101,7 +101,7 @@ fn small() {
     }
 }
 
-/// Every sheet of up to nine pixels, by every q that matters and the greatest.
+/// Every sheet of up to nine pixels, by the squared distances up to 8 and the greatest q.
 #[test]
 fn all_tiny() {
     let mut random = Random::new(72);

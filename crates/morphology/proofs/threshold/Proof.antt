@@ -12,18 +12,18 @@ use Rattle.morphology.proofs.threshold.Statement.{statement}
 use Rattle.morphology.proofs.threshold.Tie as tie
 
 abbrev Inv-loop : tie.InvT-loop
-Inv-loop map sheet₀ w h q near rim y₀ sheet y =
-    ((x j : ℕ) → x < w → j < y → getD sheet (index w x j) 0 ≡ thresholdedAt map w h q near rim x j) × (length sheet ≡ length sheet₀)
+Inv-loop map sheet₀ w h q v rim y₀ sheet y =
+    ((x j : ℕ) → x < w → j < y → getD sheet (index w x j) 0 ≡ thresholdedAt map w h q v rim x j) × (length sheet ≡ length sheet₀)
 
 abbrev μ-loop : tie.MeasureT-loop
-μ-loop map sheet₀ w h q near rim y₀ sheet y = h - y
+μ-loop map sheet₀ w h q v rim y₀ sheet y = h - y
 
 loop-again : tie.Need-loop-again Inv-loop μ-loop
 loop-again c =
     let r = c .before .before .threshold-row in
     let l = c .before .before .before .before .before in
     let a = l .before .before .args in
-    (rows-more (thresholdedAt (a .map .now) (a .w) (a .h) (a .q) (a .near) (a .rim)) (r .ensures) (l .loop .inv .0), r .ensures .long ∙ l .loop .inv .1)
+    (rows-more (thresholdedAt (a .map .now) (a .w) (a .h) (a .q) (a .v) (a .rim)) (r .ensures) (l .loop .inv .0), r .ensures .long ∙ l .loop .inv .1)
 
 returns : tie.Need-returns Inv-loop μ-loop
 unfolding thresholded

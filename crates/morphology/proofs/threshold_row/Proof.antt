@@ -22,7 +22,7 @@ returns c =
     let s = f .before .before .before in
     let a = s .args in
     rw (sym (i .before .is-inner .ensures) ∙ i .if1 .taken)
-    (row-run (a .y * a .w) (a .w) (a .near) (levelAt (a .map .now) (a .q) (a .near)) (omega (arith, s .pre .1 .1))
+    (row-run (a .y * a .w) (a .w) (a .v) (levelAt (a .map .now) (a .q) (a .v)) (omega (arith, s .pre .1 .1))
     (rw (f .fill-span .ensures) (row-filled _ _ _ (a .sheet .now) (omega (arith, on-sheet s))))
     (r .threshold-run .ensures))
 

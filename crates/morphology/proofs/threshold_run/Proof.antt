@@ -12,11 +12,11 @@ use Rattle.morphology.proofs.threshold_run.Statement.{statement}
 use Rattle.morphology.proofs.threshold_run.Tie as tie
 
 abbrev Inv-loop : tie.InvT-loop
-Inv-loop map sheet₀ from to q near p₀ sheet p =
-    RowWritten from (p - from) (λ i. levelAt map q near (from + i)) sheet₀ sheet × ((from ≤ p) × (p - from ≤ to - from))
+Inv-loop map sheet₀ from to q v p₀ sheet p =
+    RowWritten from (p - from) (λ i. levelAt map q v (from + i)) sheet₀ sheet × ((from ≤ p) × (p - from ≤ to - from))
 
 abbrev μ-loop : tie.MeasureT-loop
-μ-loop map sheet₀ from to q near p₀ sheet p = to - p
+μ-loop map sheet₀ from to q v p₀ sheet p = to - p
 
 loop-holds : tie.Need-loop-holds Inv-loop μ-loop
 loop-holds c =
@@ -36,7 +36,7 @@ loop-again : tie.Need-loop-again Inv-loop μ-loop
 loop-again c =
     let l = c .before .before .loop in
     let a = c .before .before .before .before .args in
-    (more (levelAt (a .map .now) (a .q) (a .near)) (a .from) (l .p) _ _ _ (l .inv .0) (l .inv .1 .0) (omega arith) (c .level .ensures), omega arith)
+    (more (levelAt (a .map .now) (a .q) (a .v)) (a .from) (l .p) _ _ _ (l .inv .0) (l .inv .1 .0) (omega arith) (c .level .ensures), omega arith)
 
 returns : tie.Need-returns Inv-loop μ-loop
 returns c =
