@@ -3,11 +3,10 @@
 use mathlib.Core.Path.{_≡_, refl, sym, ap, _∙_}
 use mathlib.Core.Bool.{Bool, true, false, not, cond, _&&_}
 use mathlib.Core.List.{List}
-use Prim.Native.Nat.{ℕ, _+_, _*_, _<_, _≤_}
+use Prim.Native.Nat.{ℕ, _*_, _<_, _≤_}
 use native.Mathlib.Omega.{arith}
 use lib.Dec.{eqb}
 use lib.ListN.{length, getD}
-use borrow.Author.Tests.{le-leb, lt-ltb}
 use Rattle.raster.specs.Distance.{Near, Copper}
 use Rattle.raster.specs.DistanceLaws.{apart-self}
 use Rattle.raster.specs.Limits.{maxSide, maxQ}
@@ -19,7 +18,7 @@ use Rattle.exact.specs.Nearest.{exactMap}
 use Rattle.morphology.specs.Resize.{near, bareOf, farFromRim, stays, expanded, shrunk}
 use Rattle.morphology.specs.Threshold.{turned, flipped, inner, thresholded, RootUpTo}
 use Rattle.morphology.proofs.Near.{near-found, near-true, size-near}
-use Rattle.morphology.proofs.Rim.{inner-is}
+use Rattle.morphology.proofs.Rim.{inner-true, inner-is}
 
 -- ---- the sheet turned round
 
@@ -78,7 +77,7 @@ module _ (w h q : ℕ) (wide : w ≤ maxSide) (tall : h ≤ maxSide) (small : q 
   unfolding expanded
   expands s = pixels-is w h _ _ 0 (thresholded-length (copperOf s w) 1 0) (λ x y a b.
       level-at (copperOf s w) 1 0 x y a b
-      ∙ rw (le-leb 0 y (omega arith), lt-ltb (y + 0) h (omega arith), le-leb 0 x (omega arith), lt-ltb (x + 0) w (omega arith)))
+      ∙ rw (inner-true 0 h y (omega arith) (omega arith), inner-true 0 w x (omega arith) (omega arith)))
 
   pub shrinks : (s : List ℕ) {rim : ℕ} → length s ≡ h * w → RootUpTo w q rim
       → thresholded (exactMap (copperOf (flipped s) w) w h) w h q 0 rim ≡ shrunk w h q s

@@ -39,6 +39,14 @@ unfolding gap
 off-line side t (pos i) e = omega (arith, way-abs t i, ltb-false i side e)
 off-line side t (negsuc i) e = omega (arith, before-line t i)
 
+-- an inner place, by the two sides of it
+pub inner-true : (rim n t : ℕ) → rim ≤ t → t + rim < n → inner rim n t ≡ true
+inner-true rim n t a b = simp (le-leb rim t a, lt-ltb (t + rim) n b)
+
+inner-says : (rim n t : ℕ) → inner rim n t ≡ true → (rim ≤ t) × (t + rim < n)
+inner-says rim n t e = (leb-true rim t (and-left _ _ e), ltb-true (t + rim) n (and-right (leb rim t) _ e))
+
+-- equal numbers have equal squares
 squared : {a b : ℕ} → a ≡ b → a * a ≡ b * b
 squared e = ap (λ (t : ℕ). t * t) e
 
@@ -116,10 +124,8 @@ module _ (w h x y : ℕ) (across : x < w) (down : y < h) where
 
       above : inner rim h y ≡ true → inner rim w x ≡ true → q < n * n
       above e f =
-          let a = leb-true rim y (and-left _ _ e) in
-          let b = ltb-true (y + rim) h (and-right (leb rim y) _ e) in
-          let c = leb-true rim x (and-left _ _ f) in
-          let d = ltb-true (x + rim) w (and-right (leb rim x) _ f) in
+          let a = inner-says rim h y e in
+          let b = inner-says rim w x f in
           let l : rim + 1 ≤ n = omega arith in
           omega (arith, r .last (omega arith), square-le l)
 
@@ -127,4 +133,4 @@ module _ (w h x y : ℕ) (across : x < w) (down : y < h) where
       root-below l = elim (decLe n rim) [ yes k ↦ absurd (omega (arith, square-le k, r .square)) | no k ↦ omega arith ]
 
       between : rim < n → inner rim h y && inner rim w x ≡ true
-      between l = simp (le-leb rim y (omega arith), lt-ltb (y + rim) h (omega arith), le-leb rim x (omega arith), lt-ltb (x + rim) w (omega arith))
+      between l = rw (inner-true rim h y (omega arith) (omega arith), inner-true rim w x (omega arith) (omega arith))

@@ -1,4 +1,4 @@
--- What the code does to a sheet: turned round, and written anew by the sizes of a map.
+-- What the code does to a sheet: it is turned round, and written anew by the sizes of a map, but for a rim. The root of q says how wide that is.
 -- Assumes nothing.
 use mathlib.Core.Bool.{Bool, cond, _&&_}
 use mathlib.Core.List.{List}

@@ -6,7 +6,6 @@ use mathlib.Core.Bool.{Bool, true, false, cond, _||_, or-true}
 use mathlib.Core.List.{List}
 use Prim.Native.Nat.{ℕ, _+_, _-_, _*_, _<_, _≤_}
 use native.Mathlib.Decide.{decLt, ℕ-discrete}
-use native.Mathlib.Nat.{mul-le-mul-right}
 use native.Mathlib.Numerals.{add-one}
 use native.Mathlib.Omega.{arith}
 use lib.Dec.{ltb}
@@ -20,19 +19,12 @@ use Rattle.raster.specs.Pixels.{index}
 use Rattle.raster.specs.PixelsLaws.{pixels-is, index-inside}
 use Rattle.raster.specs.Rows.{RowWritten}
 use Rattle.raster.specs.Tests.{same}
+use Rattle.raster.proofs.Rows.{row-other}
 use Rattle.envelope.specs.Stack.{holder, Envelope}
 use Rattle.rebuild.specs.Rebuild.{covers, covered, rebuilt}
 use Rattle.rebuild.specs.Passes.{passRow, rowCovers, Priced, hitBy, RowRaised, Passed}
 use Rattle.rebuild.proofs.Raising.{raised-same}
 use Rattle.rebuild.proofs.Covering.{hit-line, turns-apart}
-
--- the other rows of a sheet of width w are left alone
-row-other : (w b : ℕ) {f : ℕ → ℕ} {before after : List ℕ} → RowWritten (b * w) w f before after → (x a : ℕ) → x < w → a ≢ b
-    → getD after (index w x a) 0 ≡ getD before (index w x a) 0
-row-other w b r x a l n = elim (decLt a b) [
-  | yes q ↦ r .low-kept (index w x a) (omega (arith, mul-le-mul-right w q))
-  | no q ↦ let k : b < a = omega arith in r .high-kept (index w x a) (omega (arith, mul-le-mul-right w k))
-]
 
 -- one turn of a pass has one row
 rows-differ : (up : Bool) (h t k : ℕ) → t < h → k < h → k ≢ t → passRow up h k ≢ passRow up h t

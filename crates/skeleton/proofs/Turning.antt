@@ -4,13 +4,12 @@ use mathlib.Core.Path.{_≡_, _∙_}
 use mathlib.Core.List.{List}
 use Prim.Native.Nat.{ℕ, _+_, _*_, _<_, _≤_}
 use native.Mathlib.Decide.{decLt}
-use native.Mathlib.Nat.{mul-le-mul-right}
 use native.Mathlib.Omega.{arith}
 use lib.IntN.{ℤ}
 use lib.ListN.{length}
-use Rattle.raster.specs.Pixels.{index}
 use Rattle.raster.specs.PixelsLaws.{pixels-is}
 use Rattle.raster.specs.Rows.{RowWritten}
+use Rattle.raster.proofs.Rows.{row-other}
 use Rattle.skeleton.specs.Skeleton.{skeletonOf}
 use Rattle.skeleton.specs.Bands.{Framed, Band, keptIn, Turning}
 use Rattle.skeleton.proofs.Neighbours.{kept-is}
@@ -26,7 +25,7 @@ module _ {m : List ℤ} {w h : ℕ} {out above row below : List ℕ} where
         let s = t .bands l in record {
           long = o .long ∙ t .long;
           rows = λ i j p q k. elim (decLt j y) [
-            | yes e ↦ o .low-kept (index w i j) (omega (arith, mul-le-mul-right w e)) ∙ t .rows i j p q e
+            | yes e ↦ row-other w y o i j p (omega arith) ∙ t .rows i j p q e
             | no e ↦ let d : j ≡ y = omega arith in rw d (o .here i p ∙ kept-is m w h i y p l (s .0) (s .1) b)
           ];
           bands = λ k. (s .1, b);

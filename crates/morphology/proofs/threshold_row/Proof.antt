@@ -5,8 +5,9 @@ use Prim.Native.Nat.{_+_, _*_, _≤_}
 use native.Mathlib.Nat.{mul-le-mul-right}
 use native.Mathlib.Omega.{arith}
 use borrow.Author.Needs.{needs}
+use Rattle.raster.proofs.Rows.{row-filled}
 use Rattle.morphology.specs.Threshold.{levelAt}
-use Rattle.morphology.proofs.Rows.{row-filled, row-run}
+use Rattle.morphology.proofs.Rows.{row-run}
 use Rattle.morphology.proofs.threshold_row.Statement.{statement}
 use Rattle.morphology.proofs.threshold_row.Tie as tie
 
