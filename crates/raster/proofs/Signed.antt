@@ -2,8 +2,10 @@
 -- answer says `simp (toZ-ofZ, +ℤ-idl, facts that each number fits) t`, and t speaks of plain numbers of ℤ, by the lemmas below.
 -- Assumes nothing.
 use mathlib.Core.Path.{_≡_, refl}
-use mathlib.Core.Bool.{not}
-use Prim.Native.Nat.{zero, suc, _+_, _-_, _≤_}
+use mathlib.Core.Bool.{true, not}
+use Prim.Native.Nat.{ℕ, zero, suc, _+_, _-_, _*_, _≤_}
+use native.Mathlib.Decide.{decLe}
+use native.Mathlib.Nat.{mul-le-mul}
 use native.Mathlib.Omega.{arith}
 use lib.Dec.{T, ltb→lt, eqb}
 use lib.IntN.{ℤ, pos, negsuc, natAbs, negℤ, _+ℤ_}
@@ -12,8 +14,8 @@ use mir.Syntax.{w16, w32}
 use mir.Val.{SFits, Fits, ofZ}
 use borrow.Author.Tests.{eq-eqb, ne-eqb, eqb-true}
 use Rattle.raster.specs.Tests.{same}
-use Rattle.raster.specs.Vector.{Short, Wide, UnitStep, isMark}
-use Rattle.raster.specs.VectorLaws.{add-abs}
+use Rattle.raster.specs.Vector.{Short, Wide, UnitStep, size, isMark, unlabelled}
+use Rattle.raster.specs.VectorLaws.{add-abs, unlabelled-size}
 
 -- what 16 bits hold, 32 bits hold
 pub widen : {z : ℤ} → SFits w16 z → SFits w32 z
@@ -57,6 +59,28 @@ mag-le (negsuc n) = omega arith
 pub short-wide : (z : ℤ) → Short z → natAbs z ≤ 32768
 short-wide (pos n) s = omega arith
 short-wide (negsuc n) s = omega arith
+
+-- the size 2³¹ is that of two marks alone
+widest : (x y : ℕ) → y ≤ 32768 → x * x + y * y ≡ 2147483648 → 32768 ≤ x
+widest x y b e = elim (decLe 32768 x) [
+  | yes l ↦ l
+  | no l ↦ let k : x ≤ 32767 = omega arith in absurd (omega (arith, mul-le-mul k k, mul-le-mul b b))
+]
+
+widest-mark : (z : ℤ) → Short z → 32768 ≤ natAbs z → isMark z ≡ true
+widest-mark (pos n) s l = absurd (omega arith)
+widest-mark (negsuc n) s l = eq-eqb n 32767 (omega arith)
+
+widest-marks : (dx dy : ℤ) → Short dx → Short dy → size dx dy ≡ 2147483648 → unlabelled dx dy ≡ true
+unfolding size
+widest-marks dx dy a b e =
+    let f = widest-mark dx a (widest (natAbs dx) (natAbs dy) (short-wide dy b) e) in
+    let g = widest-mark dy b (widest (natAbs dy) (natAbs dx) (short-wide dx a) (omega arith)) in
+    rw (f, g)
+
+pub unlabelled-by-size : (dx dy : ℤ) → Short dx → Short dy → unlabelled dx dy ≡ eqb (size dx dy) 2147483648
+unlabelled-by-size dx dy a b =
+    same _ _ (λ u. eq-eqb (size dx dy) 2147483648 (unlabelled-size dx dy u)) (λ e. widest-marks dx dy a b (eqb-true (size dx dy) 2147483648 e))
 
 pub sum-wide : (a b : ℤ) → Short a → UnitStep b → Wide (a +ℤ b)
 sum-wide a b f g = omega (arith, add-abs a b, short-wide a f)

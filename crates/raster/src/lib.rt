@@ -2,6 +2,7 @@
 // map and 32 bits wide in the hand, where no sum of it and a step overflows.
 ghost use mathlib.Core.Path.{_≡_};
 ghost use Prim.Native.Nat.{_+_, _*_, _≤_};
+ghost use lib.Dec.{eqb};
 ghost use lib.IntN.{natAbs, _+ℤ_};
 ghost use lib.ListN.{length, replicate};
 ghost use Rattle.raster.specs.Vector.{Short, Wide, UnitStep, size, unlabelled};
@@ -66,10 +67,10 @@ pub fn dy_at(map: &[i16], p: usize) -> i32
     map[2 * p + 1] as i32
 }
 
-// The size at pixel p, at most 2^31.
+// The size at pixel p: at most 2^31, which an unlabelled pixel has and no other.
 pub fn size_at(map: &[i16], p: usize) -> u32
     requires { ⌜ Inside p (now map) ⌝ }
-    ensures { λ r. ⌜ (r ≡ sizeAt (now (map .entry)) p) × (r ≤ 2147483648) ⌝ }
+    ensures { λ r. ⌜ (r ≡ sizeAt (now (map .entry)) p) × ((r ≤ 2147483648) × (unlabelledAt (now (map .entry)) p ≡ eqb r 2147483648)) ⌝ }
 {
     size_of(dx_at(map, p), dy_at(map, p))
 }

@@ -1,26 +1,30 @@
--- Bands: how a part is filled, how a band is measured column by column, and when a measured or blank one is the band of a row.
+-- Bands: how a part is filled, how a row is measured and taken column by column, and when a taken or blank band is that of a row.
 -- Assumes nothing.
 use mathlib.Core.Path.{_≡_, refl, sym, ap, _∙_}
 use mathlib.Core.Logic.{_≢_}
-use mathlib.Core.Bool.{Bool, true, false, _&&_, and-false, false≢true}
+use mathlib.Core.Bool.{Bool, true, false, cond, and-false, false≢true}
 use mathlib.Core.List.{List}
 use Prim.Native.Nat.{ℕ, _+_, _-_, _*_, _<_, _≤_}
 use native.Mathlib.Decide.{decLe, ℕ-discrete}
 use native.Mathlib.Nat.{zero-add}
 use native.Mathlib.Omega.{arith}
-use lib.Dec.{leb}
 use lib.IntN.{ℤ}
 use lib.ListN.{length, getD, set, length-set, replicate, getD-replicate}
 use lib.Seq.{getD-set-other}
-use borrow.Author.Tests.{le-leb, lt-leb, leb-true}
+use borrow.Author.Tests.{le-leb, lt-leb}
 use Rattle.raster.proofs.Writing.{set-more}
-use Rattle.raster.specs.Tests.{and-left, and-right, cond-ind}
+use Rattle.raster.specs.Map.{dxAt, dyAt, sizeAt, unlabelledAt}
+use Rattle.raster.specs.VectorLaws.{unlabelled-size}
 use Rattle.skeleton.specs.Table.{g}
 use Rattle.skeleton.specs.Skeleton.{onSide}
-use Rattle.skeleton.specs.Bands.{Listed, counted, ownAt, takenAt, onSheet, Part, Framed, Blank, BandFilled, Band}
+use Rattle.skeleton.specs.Bands.{counted, ownAt, takenAt, onSheet, Part, Framed, Blank, Measured, Taken, Band}
 
 pub part-none : {start : ℕ} {f : ℕ → ℕ} {s : List ℕ} → Part start 0 f s
 part-none = record { entry = λ i l. absurd (omega arith) }
+
+-- the part that starts at 0
+pub from-zero : {n : ℕ} {f : ℕ → ℕ} {s : List ℕ} → Part 0 n f s → (i : ℕ) → i < n → getD s i 0 ≡ f i
+from-zero r i l = rw (zero-add i) at (r .entry i l)
 
 module _ {start n : ℕ} {f : ℕ → ℕ} {s : List ℕ} where
   part-more : {v : ℕ} → Part start n f s → start + n < length s → v ≡ f n → Part start (n + 1) f (set s (start + n) v)
@@ -38,44 +42,34 @@ framed-set {w} {s} p v f d = record {
   right = λ k l. getD-set-other s p (2050 * k + (w + 1)) v 0 (d k l .1) ∙ f .right k l;
 }
 
--- ---- the tables
-
--- a size that is looked up has a place
-counted-range : (n : ℕ) → (1 ≤ counted n) × (counted n ≤ 400)
-counted-range n =
-    cond-ind (λ v. (1 ≤ v) × (v ≤ 400)) (leb 1 n && leb n 400)
-    (λ e. (leb-true 1 n (and-left (leb 1 n) (leb n 400) e), leb-true n 400 (and-right (leb 1 n) (leb n 400) e))) (λ e. (omega arith, omega arith))
-
-pub listed-at : {corner : Bool} {s : List ℕ} → Listed corner s → (n : ℕ) → getD s (counted n - 1) 0 ≡ g corner (counted n)
-listed-at {corner} e n =
-    let r = counted-range n in
-    let q : counted n - 1 + 1 ≡ counted n = omega (arith, r) in
-    e .entry (counted n - 1) (omega (arith, r)) ∙ ap (g corner) q
-
 -- ---- the columns of a row
 
 module _ {m : List ℤ} {base w : ℕ} where
-  pub measured-none : {s : List ℕ} → Framed w s → BandFilled m base w 0 s
-  measured-none f = record { framed = f; sizes = part-none; sides = part-none; corners = part-none }
+  pub measured-none : {s : List ℕ} → Framed w s → Measured m base w 0 s
+  measured-none f = record { framed = f; sizes = part-none }
 
-  pub measured-more : {n a b c : ℕ} {s : List ℕ} → BandFilled m base w n s → n < w → w ≤ 2048
-      → a ≡ ownAt m (base + n) → b ≡ takenAt false m (base + n) → c ≡ takenAt true m (base + n)
-      → BandFilled m base w (n + 1) (set (set (set s (1 + n) a) (2051 + n) b) (4101 + n) c)
-  measured-more {n} {a} {b} {c} {s} r l few e f g =
+  pub measured-more : {n v : ℕ} {s : List ℕ} → Measured m base w n s → n < w → w ≤ 2048 → v ≡ ownAt m (base + n)
+      → Measured m base w (n + 1) (set s (4101 + n) v)
+  measured-more {n} {v} r l few e = record {
+    framed = framed-set (4101 + n) v (r .framed) (λ k q. (omega arith, omega arith));
+    sizes = part-more (r .sizes) (omega (arith, r .framed .long)) e;
+  }
+
+module _ {w : ℕ} {s : List ℕ} where
+  pub taken-none : Framed w s → Taken w 0 s s
+  taken-none f = record { framed = f; sizes = record { entry = λ i l. refl }; sides = part-none; corners = part-none }
+
+  pub taken-more : {n a b : ℕ} {t : List ℕ} → Taken w n s t → n < w → w ≤ 2048
+      → a ≡ g false (counted (getD s (4101 + n) 0)) → b ≡ g true (counted (getD s (4101 + n) 0))
+      → Taken w (n + 1) s (set (set t (1 + n) a) (2051 + n) b)
+  taken-more {n} {a} {b} {t} r l few e f =
       let long = r .framed .long in
-      let one : length (set s (1 + n) a) ≡ 6150 = length-set s (1 + n) a ∙ long in
-      let two : length (set (set s (1 + n) a) (2051 + n) b) ≡ 6150 = length-set (set s (1 + n) a) (2051 + n) b ∙ one in
+      let one : length (set t (1 + n) a) ≡ 6150 = length-set t (1 + n) a ∙ long in
       record {
-        framed =
-            framed-set (4101 + n) c
-            (framed-set (2051 + n) b (framed-set (1 + n) a (r .framed) (λ k q. (omega arith, omega arith))) (λ k q. (omega arith, omega arith)))
-            (λ k q. (omega arith, omega arith));
-        sizes =
-            part-other (4101 + n) c (part-other (2051 + n) b (part-more (r .sizes) (omega arith) e) (λ i q. omega arith)) (λ i q. omega arith);
-        sides =
-            part-other (4101 + n) c (part-more (part-other (1 + n) a (r .sides) (λ i q. omega arith)) (omega arith) f) (λ i q. omega arith);
-        corners =
-            part-more (part-other (2051 + n) b (part-other (1 + n) a (r .corners) (λ i q. omega arith)) (λ i q. omega arith)) (omega arith) g;
+        framed = framed-set (2051 + n) b (framed-set (1 + n) a (r .framed) (λ k q. (omega arith, omega arith))) (λ k q. (omega arith, omega arith));
+        sizes = part-other (2051 + n) b (part-other (1 + n) a (r .sizes) (λ i q. omega arith)) (λ i q. omega arith);
+        sides = part-other (2051 + n) b (part-more (r .sides) (omega arith) e) (λ i q. omega arith);
+        corners = part-more (part-other (1 + n) a (r .corners) (λ i q. omega arith)) (omega arith) f;
       }
 
 -- ---- a band
@@ -95,12 +89,20 @@ ended {w} {h} {y} {start} {s} f a b r l = record {
   ];
 }
 
+-- an unlabelled pixel is looked up under 1 by its size, 2³¹, and by 0
+counted-own : (m : List ℤ) (p : ℕ) → counted (ownAt m p) ≡ counted (sizeAt m p)
+counted-own m p = go (unlabelledAt m p) refl
+  where
+    go : (u : Bool) → unlabelledAt m p ≡ u → counted (cond u 0 (sizeAt m p)) ≡ counted (sizeAt m p)
+    go true e = rw (unlabelled-size (dxAt m p) (dyAt m p) e) refl
+    go false e = refl
+
 -- one number more cleared
 pub zeros-more : {n : ℕ} {s : List ℕ} → Part 0 n (λ i. 0) s → n < length s → Part 0 (n + 1) (λ i. 0) (set s n 0)
 zeros-more {n} {s} r l = rw (zero-add n) at (part-more r (omega arith) refl)
 
 zero-at : {s : List ℕ} → Blank s → (p : ℕ) → p < 6150 → getD s p 0 ≡ 0
-zero-at b p l = rw (zero-add p) at (b .zeros .entry p l)
+zero-at b = from-zero (b .zeros)
 
 -- a new band is blank
 pub blank : Blank (replicate 6150 0)
@@ -115,21 +117,27 @@ blank-framed {w} {s} b few = record {
 }
 
 module _ {m : List ℤ} {w h : ℕ} {s : List ℕ} where
-  pub band-measured : {y : ℕ} → BandFilled m (y * w) w w s → y < h → Band m w h (y + 1) s
-  band-measured {y} r l = record {
-    framed = r .framed;
-    sizes = λ z e k. let d : z ≡ y = omega arith in rw d (r .sizes);
-    sides = ended (takenAt false m) (r .framed .left 1 (omega arith)) (r .framed .right 1 (omega arith)) (r .sides) l;
-    corners = ended (takenAt true m) (r .framed .left 2 (omega arith)) (r .framed .right 2 (omega arith)) (r .corners) l;
+  -- a measured row with what its pixels take off
+  pub band-taken : {y : ℕ} {t : List ℕ} → Measured m (y * w) w w s → Taken w w s t → y < h → Band m w h (y + 1) t
+  band-taken {y} {t} r k l = record {
+    framed = k .framed;
+    sizes = λ z e q. let d : z ≡ y = omega arith in rw d (record { entry = λ x a. k .sizes .entry x a ∙ r .sizes .entry x a });
+    sides = ended (takenAt false m) (k .framed .left 0 (omega arith)) (k .framed .right 0 (omega arith)) (by-size false (k .sides)) l;
+    corners = ended (takenAt true m) (k .framed .left 1 (omega arith)) (k .framed .right 1 (omega arith)) (by-size true (k .corners)) l;
   }
+    where
+      by-size : (corner : Bool) {start : ℕ} → Part start w (λ x. g corner (counted (getD s (4101 + x) 0))) t → Part start w (λ x. takenAt corner m (y * w + x)) t
+      by-size corner p = record {
+        entry = λ x a. p .entry x a ∙ ap (λ (n : ℕ). g corner (counted n)) (r .sizes .entry x a) ∙ ap (g corner) (counted-own m (y * w + x));
+      }
 
   -- a row off the sheet
   pub band-blank : {j : ℕ} → Blank s → w ≤ 2048 → onSide h j ≡ false → Band m w h j s
   band-blank {j} b few off = record {
     framed = blank-framed b few;
     sizes = λ y e l. absurd (false≢true (sym off ∙ on y e l));
-    sides = record { entry = λ i l. rw (off, and-false (onSide w i)) (zero-at b (2050 + i) (omega arith)) };
-    corners = record { entry = λ i l. rw (off, and-false (onSide w i)) (zero-at b (4100 + i) (omega arith)) };
+    sides = record { entry = λ i l. rw (off, and-false (onSide w i)) (zero-at b (0 + i) (omega arith)) };
+    corners = record { entry = λ i l. rw (off, and-false (onSide w i)) (zero-at b (2050 + i) (omega arith)) };
   }
     where
       on : (y : ℕ) → j ≡ y + 1 → y < h → onSide h j ≡ true

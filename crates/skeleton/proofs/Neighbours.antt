@@ -16,6 +16,7 @@ use Rattle.raster.specs.Pixels.{index}
 use Rattle.skeleton.specs.Table.{g, least}
 use Rattle.skeleton.specs.Skeleton.{takes, onSide, takenBy, removed, kept}
 use Rattle.skeleton.specs.Bands.{counted, takenAt, onSheet, Band, takenIn, keptIn}
+use Rattle.skeleton.proofs.Bands.{from-zero}
 
 -- three tests are `anyBelow` of three
 any-three : (f : ℕ → Bool) {p q r : Bool} → p ≡ f 2 → q ≡ f 1 → r ≡ f 0 → p || (q || r) ≡ anyBelow 3 f
@@ -66,15 +67,15 @@ module _ (m : List ℤ) (w h x y : ℕ) where
           any-three (λ i. anyBelow 3 (λ j. takenBy m w h x y i j))
           (any-three (takenBy m w h x y 2)
           (same (b .corners .entry (x + 2) (omega arith)) (taken-is 2 2 (x + 2) (y + 1 + 1) refl (omega arith) refl))
-          (same (r .sides .entry (x + 2) (omega arith)) (taken-is 2 1 (x + 2) (y + 1) refl refl refl))
+          (same (from-zero (r .sides) (x + 2) (omega arith)) (taken-is 2 1 (x + 2) (y + 1) refl refl refl))
           (same (a .corners .entry (x + 2) (omega arith)) (taken-is 2 0 (x + 2) y refl (omega arith) refl)))
           (any-three (takenBy m w h x y 1)
-          (same (b .sides .entry (x + 1) (omega arith)) (taken-is 1 2 (x + 1) (y + 1 + 1) refl (omega arith) refl))
+          (same (from-zero (b .sides) (x + 1) (omega arith)) (taken-is 1 2 (x + 1) (y + 1 + 1) refl (omega arith) refl))
           self
-          (same (a .sides .entry (x + 1) (omega arith)) (taken-is 1 0 (x + 1) y refl (omega arith) refl)))
+          (same (from-zero (a .sides) (x + 1) (omega arith)) (taken-is 1 0 (x + 1) y refl (omega arith) refl)))
           (any-three (takenBy m w h x y 0)
           (same (b .corners .entry x (omega arith)) (taken-is 0 2 x (y + 1 + 1) (omega arith) (omega arith) refl))
-          (same (r .sides .entry x (omega arith)) (taken-is 0 1 x (y + 1) (omega arith) refl refl))
+          (same (from-zero (r .sides) x (omega arith)) (taken-is 0 1 x (y + 1) (omega arith) refl refl))
           (same (a .corners .entry x (omega arith)) (taken-is 0 0 x y (omega arith) (omega arith) refl)))
         where
           same : {u v : ℕ} {t : Bool} → u ≡ v → eqb v (sizeAt m (index w x y)) ≡ t → eqb u (sizeAt m (index w x y)) ≡ t

@@ -1,57 +1,28 @@
--- The two constant tables, and one test of all entries of each, which antt computes: the entry at place k is g at k + 1. So each entry is the least over all
--- whole h and k (`table-rule`).
+-- The two tables of differences. One test, which antt computes, goes over all entries of a table; by it each one and its g make n (`listed`), and n less the
+-- entry is the least over all whole h and k (`table-rule`).
 -- Assumes nothing.
-use mathlib.Core.Path.{_≡_, refl}
-use mathlib.Core.List.{List, [], _∷_}
-use mathlib.Core.Bool.{Bool, true, false, not}
+use mathlib.Core.Path.{_≡_}
+use mathlib.Core.List.{List}
+use mathlib.Core.Bool.{Bool, false, not}
 use Prim.Native.Nat.{ℕ, _+_, _-_, _≤_}
 use native.Mathlib.Omega.{arith}
 use lib.Dec.{eqb}
-use lib.ListN.{getD}
+use lib.ListN.{length, getD}
 use borrow.Author.Tests.{eqb-true, not-false}
-use Rattle.raster.specs.Distance.{gap}
 use Rattle.raster.specs.Loop.{anyBelow}
 use Rattle.raster.specs.LoopLaws.{any-false}
-use Rattle.skeleton.specs.Table.{g, least, Rule}
+use Rattle.skeleton.specs.Table.{g, Rule}
 use Rattle.skeleton.specs.Bands.{Listed}
 use Rattle.skeleton.proofs.Outside.{g-rule}
 
-unfoldable pub g4s : List ℕ
-g4s = 0 ∷ 1 ∷ 1 ∷ 1 ∷ 2 ∷ 4 ∷ 4 ∷ 4 ∷ 4 ∷ 5 ∷ 8 ∷ 8 ∷ 8 ∷ 9 ∷ 9 ∷ 9 ∷ 10 ∷ 13 ∷ 13 ∷ 13 ∷ 16 ∷ 16 ∷ 16 ∷ 16 ∷ 16 ∷ 17 ∷ 20 ∷ 20 ∷ 20 ∷ 25 ∷ 25 ∷ 25 ∷ 25 ∷ 25 ∷ 25 ∷ 25 ∷ 26 ∷ 29 ∷ 29 ∷ 29 ∷ 32 ∷ 34 ∷ 34 ∷ 34 ∷ 34 ∷ 36 ∷ 36 ∷ 36 ∷ 36 ∷ 37 ∷ 40 ∷ 40 ∷ 40 ∷ 45 ∷ 45 ∷ 45 ∷ 45 ∷ 45 ∷ 49 ∷ 49 ∷ 49 ∷ 49 ∷ 49 ∷ 49 ∷ 50 ∷ 53 ∷ 53 ∷ 53 ∷ 58 ∷ 58 ∷ 58 ∷ 58 ∷ 58 ∷ 61 ∷ 64 ∷ 64 ∷ 64 ∷ 64 ∷ 64 ∷ 64 ∷ 64 ∷ 65 ∷ 68 ∷ 68 ∷ 68 ∷ 73 ∷ 73 ∷ 73 ∷ 73 ∷ 73 ∷ 80 ∷ 80 ∷ 80 ∷ 80 ∷ 80 ∷ 80 ∷ 80 ∷ 81 ∷ 81 ∷ 81 ∷ 82 ∷ 85 ∷ 85 ∷ 85 ∷ 89 ∷ 89 ∷ 90 ∷ 90 ∷ 90 ∷ 97 ∷ 97 ∷ 97 ∷ 97 ∷ 97 ∷ 97 ∷ 97 ∷ 100 ∷ 100 ∷ 100 ∷ 100 ∷ 100 ∷ 101 ∷ 104 ∷ 104 ∷ 104 ∷ 109 ∷ 109 ∷ 109 ∷ 109 ∷ 109 ∷ 116 ∷ 116 ∷ 116 ∷ 116 ∷ 116 ∷ 116 ∷ 116 ∷ 121 ∷ 121 ∷ 121 ∷ 121 ∷ 121 ∷ 121 ∷ 121 ∷ 122 ∷ 125 ∷ 125 ∷ 125 ∷ 130 ∷ 130 ∷ 130 ∷ 130 ∷ 130 ∷ 136 ∷ 136 ∷ 136 ∷ 136 ∷ 137 ∷ 137 ∷ 137 ∷ 144 ∷ 144 ∷ 144 ∷ 144 ∷ 144 ∷ 144 ∷ 144 ∷ 144 ∷ 144 ∷ 145 ∷ 148 ∷ 148 ∷ 148 ∷ 153 ∷ 153 ∷ 153 ∷ 153 ∷ 153 ∷ 157 ∷ 157 ∷ 160 ∷ 160 ∷ 160 ∷ 160 ∷ 160 ∷ 169 ∷ 169 ∷ 169 ∷ 169 ∷ 169 ∷ 169 ∷ 169 ∷ 169 ∷ 169 ∷ 169 ∷ 169 ∷ 170 ∷ 173 ∷ 173 ∷ 173 ∷ 178 ∷ 178 ∷ 178 ∷ 178 ∷ 178 ∷ 185 ∷ 185 ∷ 185 ∷ 185 ∷ 185 ∷ 185 ∷ 185 ∷ 193 ∷ 193 ∷ 193 ∷ 193 ∷ 193 ∷ 193 ∷ 194 ∷ 194 ∷ 194 ∷ 196 ∷ 196 ∷ 196 ∷ 196 ∷ 197 ∷ 200 ∷ 200 ∷ 200 ∷ 205 ∷ 205 ∷ 205 ∷ 205 ∷ 205 ∷ 212 ∷ 212 ∷ 212 ∷ 212 ∷ 212 ∷ 212 ∷ 212 ∷ 218 ∷ 218 ∷ 218 ∷ 218 ∷ 221 ∷ 221 ∷ 221 ∷ 221 ∷ 221 ∷ 225 ∷ 225 ∷ 225 ∷ 225 ∷ 225 ∷ 225 ∷ 226 ∷ 229 ∷ 229 ∷ 229 ∷ 232 ∷ 234 ∷ 234 ∷ 234 ∷ 234 ∷ 241 ∷ 241 ∷ 241 ∷ 241 ∷ 241 ∷ 241 ∷ 241 ∷ 245 ∷ 245 ∷ 250 ∷ 250 ∷ 250 ∷ 250 ∷ 250 ∷ 250 ∷ 250 ∷ 256 ∷ 256 ∷ 256 ∷ 256 ∷ 256 ∷ 256 ∷ 256 ∷ 256 ∷ 257 ∷ 260 ∷ 260 ∷ 260 ∷ 265 ∷ 265 ∷ 265 ∷ 265 ∷ 265 ∷ 272 ∷ 272 ∷ 272 ∷ 272 ∷ 272 ∷ 272 ∷ 272 ∷ 277 ∷ 281 ∷ 281 ∷ 281 ∷ 281 ∷ 281 ∷ 281 ∷ 281 ∷ 281 ∷ 289 ∷ 289 ∷ 289 ∷ 289 ∷ 289 ∷ 289 ∷ 289 ∷ 289 ∷ 289 ∷ 289 ∷ 290 ∷ 293 ∷ 293 ∷ 293 ∷ 298 ∷ 298 ∷ 298 ∷ 298 ∷ 298 ∷ 305 ∷ 305 ∷ 305 ∷ 305 ∷ 305 ∷ 305 ∷ 305 ∷ 314 ∷ 314 ∷ 314 ∷ 314 ∷ 314 ∷ 314 ∷ 314 ∷ 314 ∷ 314 ∷ 320 ∷ 320 ∷ 320 ∷ 320 ∷ 324 ∷ 324 ∷ 324 ∷ 324 ∷ 324 ∷ 324 ∷ 324 ∷ 324 ∷ 325 ∷ 328 ∷ 328 ∷ 328 ∷ 333 ∷ 333 ∷ 333 ∷ 333 ∷ 333 ∷ 338 ∷ 338 ∷ 338 ∷ 340 ∷ 340 ∷ 340 ∷ 340 ∷ 349 ∷ 349 ∷ 349 ∷ 349 ∷ 349 ∷ 349 ∷ 349 ∷ 349 ∷ 349 ∷ 353 ∷ 353 ∷ 356 ∷ 360 ∷ 360 ∷ 360 ∷ 360 ∷ 360 ∷ 360 ∷ 360 ∷ 360 ∷ 361 ∷ 361 ∷ 361 ∷ []
+module _ {corner : Bool} {s : List ℕ} where
+  -- a table that passes the test: no entry is wrong
+  pub listed : length s ≡ 400 → anyBelow 400 (λ k. not (eqb (getD s k 0 + g corner (k + 1)) (k + 1))) ≡ false → Listed corner s
+  listed long none = record { long = long; entry = λ k l. eqb-true _ _ (not-false _ (any-false 400 _ k none l)) }
 
-unfoldable pub g8s : List ℕ
-g8s = 0 ∷ 0 ∷ 1 ∷ 1 ∷ 1 ∷ 2 ∷ 2 ∷ 2 ∷ 4 ∷ 4 ∷ 5 ∷ 5 ∷ 5 ∷ 8 ∷ 8 ∷ 8 ∷ 8 ∷ 8 ∷ 10 ∷ 10 ∷ 13 ∷ 13 ∷ 13 ∷ 13 ∷ 13 ∷ 16 ∷ 17 ∷ 17 ∷ 17 ∷ 18 ∷ 18 ∷ 18 ∷ 20 ∷ 20 ∷ 25 ∷ 25 ∷ 25 ∷ 25 ∷ 25 ∷ 25 ∷ 25 ∷ 29 ∷ 29 ∷ 29 ∷ 29 ∷ 32 ∷ 32 ∷ 32 ∷ 32 ∷ 32 ∷ 34 ∷ 34 ∷ 37 ∷ 40 ∷ 40 ∷ 40 ∷ 40 ∷ 40 ∷ 41 ∷ 41 ∷ 41 ∷ 45 ∷ 45 ∷ 45 ∷ 45 ∷ 50 ∷ 50 ∷ 50 ∷ 50 ∷ 50 ∷ 50 ∷ 50 ∷ 52 ∷ 52 ∷ 58 ∷ 58 ∷ 58 ∷ 58 ∷ 58 ∷ 58 ∷ 61 ∷ 61 ∷ 61 ∷ 61 ∷ 61 ∷ 65 ∷ 65 ∷ 65 ∷ 65 ∷ 68 ∷ 72 ∷ 72 ∷ 72 ∷ 72 ∷ 72 ∷ 72 ∷ 72 ∷ 72 ∷ 74 ∷ 74 ∷ 80 ∷ 80 ∷ 80 ∷ 80 ∷ 80 ∷ 80 ∷ 85 ∷ 85 ∷ 85 ∷ 85 ∷ 85 ∷ 85 ∷ 85 ∷ 89 ∷ 89 ∷ 89 ∷ 89 ∷ 97 ∷ 97 ∷ 97 ∷ 97 ∷ 97 ∷ 97 ∷ 97 ∷ 97 ∷ 98 ∷ 98 ∷ 98 ∷ 100 ∷ 100 ∷ 106 ∷ 106 ∷ 106 ∷ 106 ∷ 106 ∷ 106 ∷ 109 ∷ 113 ∷ 113 ∷ 113 ∷ 113 ∷ 113 ∷ 113 ∷ 113 ∷ 113 ∷ 116 ∷ 117 ∷ 117 ∷ 117 ∷ 125 ∷ 125 ∷ 125 ∷ 125 ∷ 125 ∷ 125 ∷ 125 ∷ 125 ∷ 128 ∷ 128 ∷ 128 ∷ 128 ∷ 128 ∷ 130 ∷ 130 ∷ 136 ∷ 136 ∷ 136 ∷ 136 ∷ 136 ∷ 136 ∷ 145 ∷ 145 ∷ 145 ∷ 145 ∷ 145 ∷ 145 ∷ 145 ∷ 145 ∷ 145 ∷ 145 ∷ 145 ∷ 149 ∷ 149 ∷ 149 ∷ 149 ∷ 157 ∷ 157 ∷ 157 ∷ 157 ∷ 157 ∷ 157 ∷ 157 ∷ 157 ∷ 160 ∷ 162 ∷ 162 ∷ 162 ∷ 162 ∷ 162 ∷ 162 ∷ 164 ∷ 164 ∷ 169 ∷ 169 ∷ 169 ∷ 170 ∷ 170 ∷ 170 ∷ 178 ∷ 178 ∷ 178 ∷ 178 ∷ 180 ∷ 180 ∷ 180 ∷ 180 ∷ 180 ∷ 180 ∷ 181 ∷ 181 ∷ 181 ∷ 185 ∷ 185 ∷ 185 ∷ 185 ∷ 193 ∷ 193 ∷ 193 ∷ 193 ∷ 193 ∷ 193 ∷ 193 ∷ 193 ∷ 200 ∷ 200 ∷ 200 ∷ 200 ∷ 200 ∷ 200 ∷ 200 ∷ 200 ∷ 200 ∷ 202 ∷ 202 ∷ 205 ∷ 208 ∷ 208 ∷ 208 ∷ 208 ∷ 208 ∷ 218 ∷ 218 ∷ 218 ∷ 218 ∷ 218 ∷ 218 ∷ 218 ∷ 218 ∷ 218 ∷ 218 ∷ 221 ∷ 221 ∷ 221 ∷ 221 ∷ 221 ∷ 225 ∷ 225 ∷ 225 ∷ 225 ∷ 232 ∷ 232 ∷ 232 ∷ 232 ∷ 232 ∷ 233 ∷ 233 ∷ 233 ∷ 241 ∷ 241 ∷ 241 ∷ 241 ∷ 242 ∷ 242 ∷ 242 ∷ 242 ∷ 242 ∷ 242 ∷ 242 ∷ 244 ∷ 244 ∷ 250 ∷ 250 ∷ 250 ∷ 250 ∷ 250 ∷ 250 ∷ 260 ∷ 260 ∷ 260 ∷ 260 ∷ 260 ∷ 260 ∷ 260 ∷ 260 ∷ 260 ∷ 260 ∷ 265 ∷ 265 ∷ 265 ∷ 265 ∷ 265 ∷ 265 ∷ 265 ∷ 269 ∷ 269 ∷ 269 ∷ 269 ∷ 274 ∷ 274 ∷ 274 ∷ 277 ∷ 277 ∷ 277 ∷ 277 ∷ 277 ∷ 288 ∷ 288 ∷ 288 ∷ 288 ∷ 288 ∷ 288 ∷ 288 ∷ 288 ∷ 288 ∷ 288 ∷ 288 ∷ 288 ∷ 288 ∷ 290 ∷ 290 ∷ 296 ∷ 296 ∷ 296 ∷ 296 ∷ 296 ∷ 296 ∷ 305 ∷ 305 ∷ 305 ∷ 305 ∷ 305 ∷ 305 ∷ 305 ∷ 306 ∷ 306 ∷ 306 ∷ 313 ∷ 313 ∷ 313 ∷ 313 ∷ 313 ∷ 313 ∷ 313 ∷ 313 ∷ 313 ∷ 317 ∷ 317 ∷ 317 ∷ 317 ∷ 320 ∷ 325 ∷ 325 ∷ 325 ∷ 325 ∷ 325 ∷ 325 ∷ 325 ∷ 337 ∷ 337 ∷ 337 ∷ 337 ∷ 337 ∷ 337 ∷ 337 ∷ 337 ∷ 337 ∷ 337 ∷ 337 ∷ 337 ∷ 338 ∷ 338 ∷ 338 ∷ 340 ∷ 340 ∷ 346 ∷ 346 ∷ 346 ∷ 346 ∷ 346 ∷ 346 ∷ []
-
--- the test of all entries: none is wrong
-sides : anyBelow 400 (λ k. not (eqb (getD g4s k 0) (g false (k + 1)))) ≡ false
-unfolding g4s anyBelow g least gap
-sides = refl
-
-corners : anyBelow 400 (λ k. not (eqb (getD g8s k 0) (g true (k + 1)))) ≡ false
-unfolding g8s anyBelow g least gap
-corners = refl
-
-pub side-entries : Listed false g4s
-unfolding g4s
-side-entries = record { long = refl; entry = λ k l. eqb-true _ _ (not-false _ (any-false 400 _ k sides l)) }
-
-pub corner-entries : Listed true g8s
-unfolding g8s
-corner-entries = record { long = refl; entry = λ k l. eqb-true _ _ (not-false _ (any-false 400 _ k corners l)) }
-
--- ---- the rule of every entry
-
--- the table for corners, and that for sides
-abbrev pub table : (corner : Bool) → List ℕ
-table true = g8s
-table false = g4s
-
-listed : (corner : Bool) → Listed corner (table corner)
-listed true = corner-entries
-listed false = side-entries
-
--- of either table the entry of n, from 1 to 400, is the least (h − 1)² + k², or (h − 1)² + (k − 1)², over all whole h, k with h² + k² at least n
-pub table-rule : (corner : Bool) (n : ℕ) → 1 ≤ n → n ≤ 400 → Rule corner n (getD (table corner) (n - 1) 0)
-table-rule corner n one small =
-    let e : n - 1 + 1 ≡ n = omega arith in
-    rw (listed corner .entry (n - 1) (omega arith), e) (g-rule corner n small)
+  -- n less its entry, for n from 1 to 400, is the least (h − 1)² + k², or (h − 1)² + (k − 1)², over all whole h, k with h² + k² at least n
+  pub table-rule : Listed corner s → (n : ℕ) → 1 ≤ n → n ≤ 400 → Rule corner n (n - getD s (n - 1) 0)
+  table-rule t n one small =
+      let e : n - 1 + 1 ≡ n = omega arith in
+      let d : n - getD s (n - 1) 0 ≡ g corner n = omega (arith, rw e at (t .entry (n - 1) (omega arith))) in
+      rw d (g-rule corner n small)

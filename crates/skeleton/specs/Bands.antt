@@ -12,10 +12,10 @@ use Rattle.raster.specs.Pixels.{index}
 use Rattle.skeleton.specs.Table.{g}
 use Rattle.skeleton.specs.Skeleton.{onSide, kept}
 
--- a table of g4 or g8, n at the place n − 1
+-- a table of g8 (corner) or g4 by differences (document 02, C-13): the entry of n, at the place n − 1, and g of n make n
 pub record Listed (corner : Bool) (s : List ℕ) : Type 0 where
   pub long : length s ≡ 400
-  pub entry : (k : ℕ) → k < 400 → getD s k 0 ≡ g corner (k + 1)
+  pub entry : (k : ℕ) → k < 400 → getD s k 0 + g corner (k + 1) ≡ k + 1
 
 -- the size under which a pixel of size n is looked up: its own from 1 to 400; any other takes off what 1 does, pixels of size 0, which are not kept anyway
 abbrev pub counted : ℕ → ℕ
@@ -47,30 +47,35 @@ pub record Blank (s : List ℕ) : Type 0 where
   pub long : length s ≡ 6150
   pub zeros : Part 0 6150 (λ i. 0) s
 
--- 0 at the ends, and between them the first n columns of the row that starts at `base`
-pub record BandFilled (m : List ℤ) (base w n : ℕ) (s : List ℕ) : Type 0 where
+-- 0 at the ends, and in the last part the sizes of the first n columns of the row that starts at `base`
+pub record Measured (m : List ℤ) (base w n : ℕ) (s : List ℕ) : Type 0 where
   pub framed : Framed w s
-  pub sizes : Part 1 n (λ x. ownAt m (base + x)) s
-  pub sides : Part 2051 n (λ x. takenAt false m (base + x)) s
-  pub corners : Part 4101 n (λ x. takenAt true m (base + x)) s
+  pub sizes : Part 4101 n (λ x. ownAt m (base + x)) s
+
+-- s with what the first n columns take off, by their sizes, in the other two parts
+pub record Taken (w n : ℕ) (s t : List ℕ) : Type 0 where
+  pub framed : Framed w t
+  pub sizes : Part 4101 w (λ x. getD s (4101 + x) 0) t
+  pub sides : Part 1 n (λ x. g false (counted (getD s (4101 + x) 0))) t
+  pub corners : Part 2051 n (λ x. g true (counted (getD s (4101 + x) 0))) t
 
 -- the band of row j − 1
 pub record Band (m : List ℤ) (w h j : ℕ) (s : List ℕ) : Type 0 where
   pub framed : Framed w s
-  pub sizes : (y : ℕ) → j ≡ y + 1 → y < h → Part 1 w (λ x. ownAt m (index w x y)) s
-  pub sides : Part 2050 (w + 2) (λ i. onSheet w h (takenAt false m) i j) s
-  pub corners : Part 4100 (w + 2) (λ i. onSheet w h (takenAt true m) i j) s
+  pub sizes : (y : ℕ) → j ≡ y + 1 → y < h → Part 4101 w (λ x. ownAt m (index w x y)) s
+  pub sides : Part 0 (w + 2) (λ i. onSheet w h (takenAt false m) i j) s
+  pub corners : Part 2050 (w + 2) (λ i. onSheet w h (takenAt true m) i j) s
 
 -- whether a neighbour takes off the pixel of column x and size s, by the bands of its row and of those beside it
 abbrev pub takenIn : (above row below : List ℕ) (x s : ℕ) → Bool
 takenIn above row below x s =
-    (eqb (getD below (4100 + (x + 2)) 0) s || (eqb (getD row (2050 + (x + 2)) 0) s || eqb (getD above (4100 + (x + 2)) 0) s))
-    || ((eqb (getD below (2050 + (x + 1)) 0) s || eqb (getD above (2050 + (x + 1)) 0) s)
-    || (eqb (getD below (4100 + x) 0) s || (eqb (getD row (2050 + x) 0) s || eqb (getD above (4100 + x) 0) s)))
+    (eqb (getD below (2050 + (x + 2)) 0) s || (eqb (getD row (x + 2) 0) s || eqb (getD above (2050 + (x + 2)) 0) s))
+    || ((eqb (getD below (x + 1) 0) s || eqb (getD above (x + 1) 0) s)
+    || (eqb (getD below (2050 + x) 0) s || (eqb (getD row x 0) s || eqb (getD above (2050 + x) 0) s)))
 
 -- 1 where that pixel is kept, 0 elsewhere
 abbrev pub keptIn : (above row below : List ℕ) (x : ℕ) → ℕ
-keptIn above row below x = cond (eqb (getD row (1 + x) 0) 0 || takenIn above row below x (getD row (1 + x) 0)) 0 1
+keptIn above row below x = cond (eqb (getD row (4101 + x) 0) 0 || takenIn above row below x (getD row (4101 + x) 0)) 0 1
 
 -- the y-th turn: the rows before row y are written, and if there is one, `above` is the band of the row before it and `row` its own
 pub record Turning (m : List ℤ) (w h y : ℕ) (out above row below : List ℕ) : Type 0 where

@@ -1,6 +1,6 @@
 -- g4 and g8: document 01, "Skeleton". A place at squared distance n or more from a pixel is outside its disk of size n; g(n) is the least squared distance
 -- of such a place from the pixel's side (corner) neighbour. `g` looks among the places up to 20 steps off; `Rule` says it of all whole h, k. `g-rule`
--- (proofs/Outside) says that g keeps it, and `table-rule` (proofs/Tables) that every entry of both constant tables does.
+-- (proofs/Outside) says that g keeps it, and `table-rule` (proofs/Tables) that n less its entry does, in either table of differences.
 -- Assumes nothing.
 use mathlib.Core.Path.{_≡_}
 use mathlib.Core.Bool.{Bool, cond}

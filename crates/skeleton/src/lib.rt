@@ -1,827 +1,85 @@
 // The skeleton of a map (document 01, "Skeleton").
 //
-// A band holds a row of the map in three parts: from 0 on its pixels' sizes, from 2,050 on the sizes that they take off at their sides, from 4,100 on those
-// at their corners. Column x stands at x + 1 of each part. 0 stands for a place off the sheet and for a pixel that takes nothing off, since no pixel of
-// size 0 is kept anyway. So each pixel is looked up in the tables once, and compared with its neighbours' entries with no test of the sheet's edges. The
-// tables are lent from above, since a constant that is indexed is laid out anew at each look.
+// A band holds a row of the map in three parts: from 0 on the sizes that its pixels take off at their sides, from 2,050 on those at their corners, from
+// 4,100 on their own sizes. Column x stands at x + 1 of each part. 0 stands for a place off the sheet and for a pixel that takes nothing off, since no pixel
+// of size 0 is kept anyway. So each pixel is looked up in the tables once, and compared with its neighbours' entries with no test of the sheet's edges.
+//
+// A row is measured first and looked up after, since a processor measures several pixels at a time and looks up one. The sizes stand last: were they first,
+// each would be read soon after a place 8 KiB on had been written, and processors that tell the two apart late would wait. The tables are lent from above,
+// since a constant that is indexed is laid out anew at each look.
 ghost use mathlib.Core.Path.{_≡_};
 ghost use mathlib.Core.Bool.{true, false, cond, _||_};
-ghost use Prim.Native.Nat.{_+_, _-_, _*_, _≤_, _<_};
+ghost use Prim.Native.Nat.{_+_, _*_, _≤_, _<_};
 ghost use lib.Dec.{eqb};
-ghost use lib.ListN.{length, getD};
+ghost use lib.ListN.{length};
 ghost use Rattle.raster.specs.Rows.{RowWritten};
 ghost use Rattle.skeleton.specs.Skeleton.{skeletonOf};
-ghost use Rattle.skeleton.specs.Bands.{Listed, counted, Framed, Blank, BandFilled, Band, keptIn, Turning};
+ghost use Rattle.skeleton.specs.Table.{g};
+ghost use Rattle.skeleton.specs.Bands.{Listed, counted, Framed, Blank, Measured, Taken, Band, keptIn, Turning};
 
-// g4(n) at place n − 1: the least squared distance from a side neighbour of a place outside the disk of size n.
-const G4: [u16; 400] = [
-    0,
-    1,
-    1,
-    1,
-    2,
-    4,
-    4,
-    4,
-    4,
-    5,
-    8,
-    8,
-    8,
-    9,
-    9,
-    9,
-    10,
-    13,
-    13,
-    13,
-    16,
-    16,
-    16,
-    16,
-    16,
-    17,
-    20,
-    20,
-    20,
-    25,
-    25,
-    25,
-    25,
-    25,
-    25,
-    25,
-    26,
-    29,
-    29,
-    29,
-    32,
-    34,
-    34,
-    34,
-    34,
-    36,
-    36,
-    36,
-    36,
-    37,
-    40,
-    40,
-    40,
-    45,
-    45,
-    45,
-    45,
-    45,
-    49,
-    49,
-    49,
-    49,
-    49,
-    49,
-    50,
-    53,
-    53,
-    53,
-    58,
-    58,
-    58,
-    58,
-    58,
-    61,
-    64,
-    64,
-    64,
-    64,
-    64,
-    64,
-    64,
-    65,
-    68,
-    68,
-    68,
-    73,
-    73,
-    73,
-    73,
-    73,
-    80,
-    80,
-    80,
-    80,
-    80,
-    80,
-    80,
-    81,
-    81,
-    81,
-    82,
-    85,
-    85,
-    85,
-    89,
-    89,
-    90,
-    90,
-    90,
-    97,
-    97,
-    97,
-    97,
-    97,
-    97,
-    97,
-    100,
-    100,
-    100,
-    100,
-    100,
-    101,
-    104,
-    104,
-    104,
-    109,
-    109,
-    109,
-    109,
-    109,
-    116,
-    116,
-    116,
-    116,
-    116,
-    116,
-    116,
-    121,
-    121,
-    121,
-    121,
-    121,
-    121,
-    121,
-    122,
-    125,
-    125,
-    125,
-    130,
-    130,
-    130,
-    130,
-    130,
-    136,
-    136,
-    136,
-    136,
-    137,
-    137,
-    137,
-    144,
-    144,
-    144,
-    144,
-    144,
-    144,
-    144,
-    144,
-    144,
-    145,
-    148,
-    148,
-    148,
-    153,
-    153,
-    153,
-    153,
-    153,
-    157,
-    157,
-    160,
-    160,
-    160,
-    160,
-    160,
-    169,
-    169,
-    169,
-    169,
-    169,
-    169,
-    169,
-    169,
-    169,
-    169,
-    169,
-    170,
-    173,
-    173,
-    173,
-    178,
-    178,
-    178,
-    178,
-    178,
-    185,
-    185,
-    185,
-    185,
-    185,
-    185,
-    185,
-    193,
-    193,
-    193,
-    193,
-    193,
-    193,
-    194,
-    194,
-    194,
-    196,
-    196,
-    196,
-    196,
-    197,
-    200,
-    200,
-    200,
-    205,
-    205,
-    205,
-    205,
-    205,
-    212,
-    212,
-    212,
-    212,
-    212,
-    212,
-    212,
-    218,
-    218,
-    218,
-    218,
-    221,
-    221,
-    221,
-    221,
-    221,
-    225,
-    225,
-    225,
-    225,
-    225,
-    225,
-    226,
-    229,
-    229,
-    229,
-    232,
-    234,
-    234,
-    234,
-    234,
-    241,
-    241,
-    241,
-    241,
-    241,
-    241,
-    241,
-    245,
-    245,
-    250,
-    250,
-    250,
-    250,
-    250,
-    250,
-    250,
-    256,
-    256,
-    256,
-    256,
-    256,
-    256,
-    256,
-    256,
-    257,
-    260,
-    260,
-    260,
-    265,
-    265,
-    265,
-    265,
-    265,
-    272,
-    272,
-    272,
-    272,
-    272,
-    272,
-    272,
-    277,
-    281,
-    281,
-    281,
-    281,
-    281,
-    281,
-    281,
-    281,
-    289,
-    289,
-    289,
-    289,
-    289,
-    289,
-    289,
-    289,
-    289,
-    289,
-    290,
-    293,
-    293,
-    293,
-    298,
-    298,
-    298,
-    298,
-    298,
-    305,
-    305,
-    305,
-    305,
-    305,
-    305,
-    305,
-    314,
-    314,
-    314,
-    314,
-    314,
-    314,
-    314,
-    314,
-    314,
-    320,
-    320,
-    320,
-    320,
-    324,
-    324,
-    324,
-    324,
-    324,
-    324,
-    324,
-    324,
-    325,
-    328,
-    328,
-    328,
-    333,
-    333,
-    333,
-    333,
-    333,
-    338,
-    338,
-    338,
-    340,
-    340,
-    340,
-    340,
-    349,
-    349,
-    349,
-    349,
-    349,
-    349,
-    349,
-    349,
-    349,
-    353,
-    353,
-    356,
-    360,
-    360,
-    360,
-    360,
-    360,
-    360,
-    360,
-    360,
-    361,
-    361,
-    361,
-];
+// The tables (document 02, C-13): n − g4(n) for n from 1 to 400, a byte each, twenty to a line, in hexadecimal. As bytes of a string they keep their lines.
+const SIDES: [u8; 400] = *b"\
+    \x01\x01\x02\x03\x03\x02\x03\x04\x05\x05\x03\x04\x05\x05\x06\x07\x07\x05\x06\x07\
+    \x05\x06\x07\x08\x09\x09\x07\x08\x09\x05\x06\x07\x08\x09\x0a\x0b\x0b\x09\x0a\x0b\
+    \x09\x08\x09\x0a\x0b\x0a\x0b\x0c\x0d\x0d\x0b\x0c\x0d\x09\x0a\x0b\x0c\x0d\x0a\x0b\
+    \x0c\x0d\x0e\x0f\x0f\x0d\x0e\x0f\x0b\x0c\x0d\x0e\x0f\x0d\x0b\x0c\x0d\x0e\x0f\x10\
+    \x11\x11\x0f\x10\x11\x0d\x0e\x0f\x10\x11\x0b\x0c\x0d\x0e\x0f\x10\x11\x11\x12\x13\
+    \x13\x11\x12\x13\x10\x11\x11\x12\x13\x0d\x0e\x0f\x10\x11\x12\x13\x11\x12\x13\x14\
+    \x15\x15\x13\x14\x15\x11\x12\x13\x14\x15\x0f\x10\x11\x12\x13\x14\x15\x11\x12\x13\
+    \x14\x15\x16\x17\x17\x15\x16\x17\x13\x14\x15\x16\x17\x12\x13\x14\x15\x15\x16\x17\
+    \x11\x12\x13\x14\x15\x16\x17\x18\x19\x19\x17\x18\x19\x15\x16\x17\x18\x19\x16\x17\
+    \x15\x16\x17\x18\x19\x11\x12\x13\x14\x15\x16\x17\x18\x19\x1a\x1b\x1b\x19\x1a\x1b\
+    \x17\x18\x19\x1a\x1b\x15\x16\x17\x18\x19\x1a\x1b\x14\x15\x16\x17\x18\x19\x19\x1a\
+    \x1b\x1a\x1b\x1c\x1d\x1d\x1b\x1c\x1d\x19\x1a\x1b\x1c\x1d\x17\x18\x19\x1a\x1b\x1c\
+    \x1d\x18\x19\x1a\x1b\x19\x1a\x1b\x1c\x1d\x1a\x1b\x1c\x1d\x1e\x1f\x1f\x1d\x1e\x1f\
+    \x1d\x1c\x1d\x1e\x1f\x19\x1a\x1b\x1c\x1d\x1e\x1f\x1c\x1d\x19\x1a\x1b\x1c\x1d\x1e\
+    \x1f\x1a\x1b\x1c\x1d\x1e\x1f\x20\x21\x21\x1f\x20\x21\x1d\x1e\x1f\x20\x21\x1b\x1c\
+    \x1d\x1e\x1f\x20\x21\x1d\x1a\x1b\x1c\x1d\x1e\x1f\x20\x21\x1a\x1b\x1c\x1d\x1e\x1f\
+    \x20\x21\x22\x23\x23\x21\x22\x23\x1f\x20\x21\x22\x23\x1d\x1e\x1f\x20\x21\x22\x23\
+    \x1b\x1c\x1d\x1e\x1f\x20\x21\x22\x23\x1e\x1f\x20\x21\x1e\x1f\x20\x21\x22\x23\x24\
+    \x25\x25\x23\x24\x25\x21\x22\x23\x24\x25\x21\x22\x23\x22\x23\x24\x25\x1d\x1e\x1f\
+    \x20\x21\x22\x23\x24\x25\x22\x23\x21\x1e\x1f\x20\x21\x22\x23\x24\x25\x25\x26\x27\
+";
 
-// g8(n) at place n − 1, from a corner neighbour.
-const G8: [u16; 400] = [
-    0,
-    0,
-    1,
-    1,
-    1,
-    2,
-    2,
-    2,
-    4,
-    4,
-    5,
-    5,
-    5,
-    8,
-    8,
-    8,
-    8,
-    8,
-    10,
-    10,
-    13,
-    13,
-    13,
-    13,
-    13,
-    16,
-    17,
-    17,
-    17,
-    18,
-    18,
-    18,
-    20,
-    20,
-    25,
-    25,
-    25,
-    25,
-    25,
-    25,
-    25,
-    29,
-    29,
-    29,
-    29,
-    32,
-    32,
-    32,
-    32,
-    32,
-    34,
-    34,
-    37,
-    40,
-    40,
-    40,
-    40,
-    40,
-    41,
-    41,
-    41,
-    45,
-    45,
-    45,
-    45,
-    50,
-    50,
-    50,
-    50,
-    50,
-    50,
-    50,
-    52,
-    52,
-    58,
-    58,
-    58,
-    58,
-    58,
-    58,
-    61,
-    61,
-    61,
-    61,
-    61,
-    65,
-    65,
-    65,
-    65,
-    68,
-    72,
-    72,
-    72,
-    72,
-    72,
-    72,
-    72,
-    72,
-    74,
-    74,
-    80,
-    80,
-    80,
-    80,
-    80,
-    80,
-    85,
-    85,
-    85,
-    85,
-    85,
-    85,
-    85,
-    89,
-    89,
-    89,
-    89,
-    97,
-    97,
-    97,
-    97,
-    97,
-    97,
-    97,
-    97,
-    98,
-    98,
-    98,
-    100,
-    100,
-    106,
-    106,
-    106,
-    106,
-    106,
-    106,
-    109,
-    113,
-    113,
-    113,
-    113,
-    113,
-    113,
-    113,
-    113,
-    116,
-    117,
-    117,
-    117,
-    125,
-    125,
-    125,
-    125,
-    125,
-    125,
-    125,
-    125,
-    128,
-    128,
-    128,
-    128,
-    128,
-    130,
-    130,
-    136,
-    136,
-    136,
-    136,
-    136,
-    136,
-    145,
-    145,
-    145,
-    145,
-    145,
-    145,
-    145,
-    145,
-    145,
-    145,
-    145,
-    149,
-    149,
-    149,
-    149,
-    157,
-    157,
-    157,
-    157,
-    157,
-    157,
-    157,
-    157,
-    160,
-    162,
-    162,
-    162,
-    162,
-    162,
-    162,
-    164,
-    164,
-    169,
-    169,
-    169,
-    170,
-    170,
-    170,
-    178,
-    178,
-    178,
-    178,
-    180,
-    180,
-    180,
-    180,
-    180,
-    180,
-    181,
-    181,
-    181,
-    185,
-    185,
-    185,
-    185,
-    193,
-    193,
-    193,
-    193,
-    193,
-    193,
-    193,
-    193,
-    200,
-    200,
-    200,
-    200,
-    200,
-    200,
-    200,
-    200,
-    200,
-    202,
-    202,
-    205,
-    208,
-    208,
-    208,
-    208,
-    208,
-    218,
-    218,
-    218,
-    218,
-    218,
-    218,
-    218,
-    218,
-    218,
-    218,
-    221,
-    221,
-    221,
-    221,
-    221,
-    225,
-    225,
-    225,
-    225,
-    232,
-    232,
-    232,
-    232,
-    232,
-    233,
-    233,
-    233,
-    241,
-    241,
-    241,
-    241,
-    242,
-    242,
-    242,
-    242,
-    242,
-    242,
-    242,
-    244,
-    244,
-    250,
-    250,
-    250,
-    250,
-    250,
-    250,
-    260,
-    260,
-    260,
-    260,
-    260,
-    260,
-    260,
-    260,
-    260,
-    260,
-    265,
-    265,
-    265,
-    265,
-    265,
-    265,
-    265,
-    269,
-    269,
-    269,
-    269,
-    274,
-    274,
-    274,
-    277,
-    277,
-    277,
-    277,
-    277,
-    288,
-    288,
-    288,
-    288,
-    288,
-    288,
-    288,
-    288,
-    288,
-    288,
-    288,
-    288,
-    288,
-    290,
-    290,
-    296,
-    296,
-    296,
-    296,
-    296,
-    296,
-    305,
-    305,
-    305,
-    305,
-    305,
-    305,
-    305,
-    306,
-    306,
-    306,
-    313,
-    313,
-    313,
-    313,
-    313,
-    313,
-    313,
-    313,
-    313,
-    317,
-    317,
-    317,
-    317,
-    320,
-    325,
-    325,
-    325,
-    325,
-    325,
-    325,
-    325,
-    337,
-    337,
-    337,
-    337,
-    337,
-    337,
-    337,
-    337,
-    337,
-    337,
-    337,
-    337,
-    338,
-    338,
-    338,
-    340,
-    340,
-    346,
-    346,
-    346,
-    346,
-    346,
-    346,
-];
+// n − g8(n).
+const CORNERS: [u8; 400] = *b"\
+    \x01\x02\x02\x03\x04\x04\x05\x06\x05\x06\x06\x07\x08\x06\x07\x08\x09\x0a\x09\x0a\
+    \x08\x09\x0a\x0b\x0c\x0a\x0a\x0b\x0c\x0c\x0d\x0e\x0d\x0e\x0a\x0b\x0c\x0d\x0e\x0f\
+    \x10\x0d\x0e\x0f\x10\x0e\x0f\x10\x11\x12\x11\x12\x10\x0e\x0f\x10\x11\x12\x12\x13\
+    \x14\x11\x12\x13\x14\x10\x11\x12\x13\x14\x15\x16\x15\x16\x11\x12\x13\x14\x15\x16\
+    \x14\x15\x16\x17\x18\x15\x16\x17\x18\x16\x13\x14\x15\x16\x17\x18\x19\x1a\x19\x1a\
+    \x15\x16\x17\x18\x19\x1a\x16\x17\x18\x19\x1a\x1b\x1c\x19\x1a\x1b\x1c\x15\x16\x17\
+    \x18\x19\x1a\x1b\x1c\x1c\x1d\x1e\x1d\x1e\x19\x1a\x1b\x1c\x1d\x1e\x1c\x19\x1a\x1b\
+    \x1c\x1d\x1e\x1f\x20\x1e\x1e\x1f\x20\x19\x1a\x1b\x1c\x1d\x1e\x1f\x20\x1e\x1f\x20\
+    \x21\x22\x21\x22\x1d\x1e\x1f\x20\x21\x22\x1a\x1b\x1c\x1d\x1e\x1f\x20\x21\x22\x23\
+    \x24\x21\x22\x23\x24\x1d\x1e\x1f\x20\x21\x22\x23\x24\x22\x21\x22\x23\x24\x25\x26\
+    \x25\x26\x22\x23\x24\x24\x25\x26\x1f\x20\x21\x22\x21\x22\x23\x24\x25\x26\x26\x27\
+    \x28\x25\x26\x27\x28\x21\x22\x23\x24\x25\x26\x27\x28\x22\x23\x24\x25\x26\x27\x28\
+    \x29\x2a\x29\x2a\x28\x26\x27\x28\x29\x2a\x21\x22\x23\x24\x25\x26\x27\x28\x29\x2a\
+    \x28\x29\x2a\x2b\x2c\x29\x2a\x2b\x2c\x26\x27\x28\x29\x2a\x2a\x2b\x2c\x25\x26\x27\
+    \x28\x28\x29\x2a\x2b\x2c\x2d\x2e\x2d\x2e\x29\x2a\x2b\x2c\x2d\x2e\x25\x26\x27\x28\
+    \x29\x2a\x2b\x2c\x2d\x2e\x2a\x2b\x2c\x2d\x2e\x2f\x30\x2d\x2e\x2f\x30\x2c\x2d\x2e\
+    \x2c\x2d\x2e\x2f\x30\x26\x27\x28\x29\x2a\x2b\x2c\x2d\x2e\x2f\x30\x31\x32\x31\x32\
+    \x2d\x2e\x2f\x30\x31\x32\x2a\x2b\x2c\x2d\x2e\x2f\x30\x30\x31\x32\x2c\x2d\x2e\x2f\
+    \x30\x31\x32\x33\x34\x31\x32\x33\x34\x32\x2e\x2f\x30\x31\x32\x33\x34\x29\x2a\x2b\
+    \x2c\x2d\x2e\x2f\x30\x31\x32\x33\x34\x34\x35\x36\x35\x36\x31\x32\x33\x34\x35\x36\
+";
 
-// Where the tables have what a pixel of size n takes off; for one that takes nothing off, the first place, which has 0.
+// The table for sides, with its promise.
+fn side_table() -> [u8; 400]
+    ensures { λ r. ⌜ Listed false r ⌝ }
+{
+    SIDES
+}
+
+// The table for corners.
+fn corner_table() -> [u8; 400]
+    ensures { λ r. ⌜ Listed true r ⌝ }
+{
+    CORNERS
+}
+
+// Where a pixel of size n is looked up; for one that takes nothing off, the first place, since size 1 takes off what has size 0.
 fn place_of(n: u32) -> usize
     ensures { λ r. ⌜ (r < 400) × (r + 1 ≡ counted n) ⌝ }
 {
@@ -834,37 +92,48 @@ fn place_of(n: u32) -> usize
     (n - 1) as usize
 }
 
-// What a pixel of size n takes off, by one of the tables.
-fn taken_off(table: &[u16], n: u32) -> u32
-    requires { ⌜ length (now table) ≡ 400 ⌝ }
-    ensures { λ r. ⌜ r ≡ getD (now (table .entry)) (counted n - 1) 0 ⌝ }
+// What a pixel of size n takes off at its corners, or at its sides.
+fn taken_off(sides: &[u8], corners: &[u8], corner: bool, n: u32) -> u32
+    requires { ⌜ Listed false (now sides) × Listed true (now corners) ⌝ }
+    ensures { λ r. ⌜ r ≡ g corner (counted n) ⌝ }
 {
     let p = place_of(n);
-    table[p] as u32
+    let difference = if corner { corners[p] } else { sides[p] };
+    (p as u32 + 1) - difference as u32
 }
 
-// The size n of a pixel, 0 if it is unlabelled, for then it is not kept either.
-fn own_size(unlabelled: bool, n: u32) -> u32
-    ensures { λ r. ⌜ r ≡ cond unlabelled 0 n ⌝ }
+// What a band has for a pixel of size n: n, but 0 for 2^31, since an unlabelled pixel is not kept either.
+fn own_size(n: u32) -> u32
+    ensures { λ r. ⌜ r ≡ cond (eqb n 2147483648) 0 n ⌝ }
 {
-    if unlabelled {
+    if n == 2147483648 {
         return 0;
     }
     n
 }
 
-// The band of the row that starts at `base`.
-fn measure_row(map: &[i16], base: usize, w: usize, g4: &[u16], g8: &[u16], band: &mut [u32])
+// The sizes of the row that starts at `base`, in the last part of its band.
+fn measure_row(map: &[i16], base: usize, w: usize, band: &mut [u32])
     requires { ⌜ (2 * (base + w) ≤ length (now map)) × (w ≤ 2048) ⌝ }
-    requires { ⌜ Listed false (now g4) × (Listed true (now g8) × Framed w (now band)) ⌝ }
-    ensures { λ _. ⌜ BandFilled (now (map .entry)) base w w (now (band .exit)) ⌝ }
+    requires { ⌜ Framed w (now band) ⌝ }
+    ensures { λ _. ⌜ Measured (now (map .entry)) base w w (now (band .exit)) ⌝ }
 {
     for x in 0..w {
         let n = raster::size_at(map, base + x);
-        let unlabelled = raster::unlabelled_at(map, base + x);
-        band[1 + x] = own_size(unlabelled, n);
-        band[2051 + x] = taken_off(g4, n);
-        band[4101 + x] = taken_off(g8, n);
+        band[4101 + x] = own_size(n);
+    }
+}
+
+// What each pixel of a measured row takes off, in the other two parts.
+fn take_row(w: usize, sides: &[u8], corners: &[u8], band: &mut [u32])
+    requires { ⌜ w ≤ 2048 ⌝ }
+    requires { ⌜ Listed false (now sides) × (Listed true (now corners) × Framed w (now band)) ⌝ }
+    ensures { λ _. ⌜ Taken w w (now (band .entry)) (now (band .exit)) ⌝ }
+{
+    for x in 0..w {
+        let n = band[4101 + x];
+        band[1 + x] = taken_off(sides, corners, false, n);
+        band[2051 + x] = taken_off(sides, corners, true, n);
     }
 }
 
@@ -879,13 +148,22 @@ fn clear(band: &mut [u32])
 }
 
 // The band of row y, which may be the one below the last.
-fn fill_band(map: &[i16], w: usize, h: usize, y: usize, g4: &[u16], g8: &[u16], band: &mut [u32])
+fn fill_band(
+    map: &[i16],
+    w: usize,
+    h: usize,
+    y: usize,
+    sides: &[u8],
+    corners: &[u8],
+    band: &mut [u32],
+)
     requires { ⌜ (w ≤ 2048) × (length (now map) ≡ 2 * (h * w)) ⌝ }
-    requires { ⌜ Listed false (now g4) × (Listed true (now g8) × Framed w (now band)) ⌝ }
+    requires { ⌜ Listed false (now sides) × (Listed true (now corners) × Framed w (now band)) ⌝ }
     ensures { λ _. ⌜ Band (now (map .entry)) w h (y + 1) (now (band .exit)) ⌝ }
 {
     if y < h {
-        measure_row(map, y * w, w, g4, g8, band);
+        measure_row(map, y * w, w, band);
+        take_row(w, sides, corners, band);
         return;
     }
     clear(band);
@@ -903,15 +181,10 @@ fn keep(above: &[u32], row: &[u32], below: &[u32], x: usize) -> u8
     requires { ⌜ (x < 2048) × ((length (now above) ≡ 6150) × ((length (now row) ≡ 6150) × (length (now below) ≡ 6150))) ⌝ }
     ensures { λ r. ⌜ r ≡ keptIn (now (above .entry)) (now (row .entry)) (now (below .entry)) x ⌝ }
 {
-    let s = row[1 + x];
-    let right = taken(
-        s,
-        below[4100 + (x + 2)],
-        row[2050 + (x + 2)],
-        above[4100 + (x + 2)],
-    );
-    let here = (below[2050 + (x + 1)] == s) | (above[2050 + (x + 1)] == s);
-    let left = taken(s, below[4100 + x], row[2050 + x], above[4100 + x]);
+    let s = row[4101 + x];
+    let right = taken(s, below[2050 + (x + 2)], row[x + 2], above[2050 + (x + 2)]);
+    let here = (below[x + 1] == s) | (above[x + 1] == s);
+    let left = taken(s, below[2050 + x], row[x], above[2050 + x]);
     if (s == 0) | (right | (here | left)) {
         return 0;
     }
@@ -936,21 +209,21 @@ fn row_turn(
     w: usize,
     h: usize,
     y: usize,
-    g4: &[u16],
-    g8: &[u16],
+    sides: &[u8],
+    corners: &[u8],
     above: &[u32],
     row: &[u32],
     below: &mut [u32],
 )
     requires { ⌜ (w ≤ 2048) × (length (now map) ≡ 2 * (h * w)) ⌝ }
-    requires { ⌜ Listed false (now g4) × Listed true (now g8) ⌝ }
+    requires { ⌜ Listed false (now sides) × Listed true (now corners) ⌝ }
     requires { ⌜ Turning (now map) w h y (now out) (now above) (now row) (now below) ⌝ }
     ensures { λ _. ⌜ Turning (now (map .entry)) w h (y + 1) (now (out .exit)) (now (row .entry)) (now (below .exit)) (now (above .entry)) ⌝ }
 {
     if h <= y {
         return;
     }
-    fill_band(map, w, h, y + 1, g4, g8, below);
+    fill_band(map, w, h, y + 1, sides, corners, below);
     keep_row(out, y * w, w, above, row, below);
 }
 
@@ -961,23 +234,23 @@ fn keep_rows(
     out: &mut [u8],
     w: usize,
     h: usize,
-    g4: &[u16],
-    g8: &[u16],
+    sides: &[u8],
+    corners: &[u8],
     a: &mut [u32],
     b: &mut [u32],
     c: &mut [u32],
 )
     requires { ⌜ (w ≤ 2048) × ((h ≤ 2048) × ((length (now map) ≡ 2 * (h * w)) × (length (now out) ≡ h * w))) ⌝ }
-    requires { ⌜ Listed false (now g4) × Listed true (now g8) ⌝ }
+    requires { ⌜ Listed false (now sides) × Listed true (now corners) ⌝ }
     requires { ⌜ Band (now map) w h 0 (now a) × (Framed w (now b) × Framed w (now c)) ⌝ }
     ensures { λ _. ⌜ now (out .exit) ≡ skeletonOf (now (map .entry)) w h ⌝ }
 {
-    fill_band(map, w, h, 0, g4, g8, b);
+    fill_band(map, w, h, 0, sides, corners, b);
     let mut y = 0;
     while y < h {
-        row_turn(map, out, w, h, y, g4, g8, a, b, c);
-        row_turn(map, out, w, h, y + 1, g4, g8, b, c, a);
-        row_turn(map, out, w, h, y + 2, g4, g8, c, a, b);
+        row_turn(map, out, w, h, y, sides, corners, a, b, c);
+        row_turn(map, out, w, h, y + 1, sides, corners, b, c, a);
+        row_turn(map, out, w, h, y + 2, sides, corners, c, a, b);
         y += 3;
     }
 }
@@ -991,5 +264,7 @@ pub fn skeleton(map: &[i16], out: &mut [u8], w: usize, h: usize)
     let mut a = [0u32; 6150];
     let mut b = [0u32; 6150];
     let mut c = [0u32; 6150];
-    keep_rows(map, out, w, h, &G4, &G8, &mut a, &mut b, &mut c);
+    let sides = side_table();
+    let corners = corner_table();
+    keep_rows(map, out, w, h, &sides, &corners, &mut a, &mut b, &mut c);
 }

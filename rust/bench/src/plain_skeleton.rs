@@ -5,13 +5,13 @@ use crate::plain_exact::{envelope, Entry, Pixel, NO_SITE, SIDE, UNLABELLED};
 /// The size of an unlabelled pixel, above all others.
 const NONE: u32 = 1 << 31;
 
-/// g4 and g8 for n up to 400. At 0 stands 0: a pixel of size 0 takes nothing off, since none of size 0 is kept.
-static G4: [u32; 401] = table(false);
-static G8: [u32; 401] = table(true);
+/// n − g4(n) and n − g8(n) for n from 1 to 400, at place n − 1.
+static SIDES: [u8; 400] = table(false);
+static CORNERS: [u8; 400] = table(true);
 
-/// The least (h − 1)² + k² of document 01, with `corner` the least (h − 1)² + (k − 1)². Pairs with a number above 20 are no better than
+/// g is the least (h − 1)² + k² of document 01, with `corner` the least (h − 1)² + (k − 1)². Pairs with a number above 20 are no better than
 /// (20, 0), and negative ones no better than those without the sign.
-const fn table(corner: bool) -> [u32; 401] {
+const fn table(corner: bool) -> [u8; 400] {
     let mut least = [u32::MAX; 401];
     let mut pair = 0;
     while pair < 21 * 21 {
@@ -24,15 +24,16 @@ const fn table(corner: bool) -> [u32; 401] {
         }
         pair += 1;
     }
-    let mut n = 399;
+    let mut differences = [0; 400];
+    let mut n = 400;
     while n > 0 {
-        if least[n + 1] < least[n] {
+        if n < 400 && least[n + 1] < least[n] {
             least[n] = least[n + 1];
         }
+        differences[n - 1] = (n as u32 - least[n]) as u8;
         n -= 1;
     }
-    least[0] = 0;
-    least
+    differences
 }
 
 fn size([dx, dy]: Pixel) -> u32 {
@@ -76,12 +77,15 @@ fn measure(row: Option<&[Pixel]>, band: &mut Band) {
     };
     let last = row.len() + 1;
     let (own, side, corner) = (&mut band.own[1..last], &mut band.side[1..last], &mut band.corner[1..last]);
-    for (x, &pixel) in row.iter().enumerate() {
+    for (own, &pixel) in own.iter_mut().zip(row) {
         let n = size(pixel);
-        let counted = if n <= 400 { n as usize } else { 0 };
-        own[x] = if n == NONE { 0 } else { n };
-        side[x] = G4[counted];
-        corner[x] = G8[counted];
+        *own = if n == NONE { 0 } else { n };
+    }
+    for (x, &n) in own.iter().enumerate() {
+        // any other size takes off what 1 does, pixels of size 0, which are not kept anyway
+        let counted = if (1..=400).contains(&n) { n } else { 1 };
+        side[x] = counted - u32::from(SIDES[counted as usize - 1]);
+        corner[x] = counted - u32::from(CORNERS[counted as usize - 1]);
     }
 }
 

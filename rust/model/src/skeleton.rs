@@ -94,6 +94,13 @@ mod tests {
         assert_eq!([g4(1), g8(1), g4(400), g8(400)], [0, 0, 361, 346]);
     }
 
+    /// Document 02, C-13: a byte holds what g lacks of n.
+    #[test]
+    fn differences() {
+        let largest = |g: fn(u64) -> u64| (1..=400).map(|n| n - g(n)).max();
+        assert_eq!([largest(g4), largest(g8)], [Some(39), Some(54)]);
+    }
+
     /// A neighbour covers all that a pixel of size g covers, and of a pixel one larger something is left out.
     #[test]
     fn what_a_neighbour_covers() {

@@ -1,4 +1,4 @@
--- `raster::size_at` meets its contract, by those of the calls: what is read fits, and two squares of it are at most 2^31.
+-- `raster::size_at` meets its contract, by those of the calls: what is read fits, and two squares of it are at most 2^31, and that of two marks alone.
 -- Assumes nothing.
 use Prim.Native.Nat.{_≤_}
 use native.Mathlib.Nat.{mul-le-mul}
@@ -9,7 +9,7 @@ use mir.Val.{SFits}
 use mir.ValLaws.{toZ-ofZ}
 use borrow.Author.Needs.{needs}
 use Rattle.raster.specs.Vector.{Short, size}
-use Rattle.raster.proofs.Signed.{short-wide}
+use Rattle.raster.proofs.Signed.{short-wide, unlabelled-by-size}
 use Rattle.raster.proofs.size_at.Statement.{statement}
 use Rattle.raster.proofs.size_at.Tie as tie
 
@@ -30,10 +30,13 @@ size-of-requires c κs =
 
 returns : tie.Need-returns
 returns c =
-    let d = c .before in
-    let x = d .before .dx-at in
-    let e = simp (toZ-ofZ, dx-fits d, dy-fits d) at (c .size-of .ensures) in
-    (simp (x .ensures .0, d .dy-at .ensures .0) at e, rw e (size-most _ _ (x .ensures .1) (d .dy-at .ensures .1)))
+    let y = c .before .dy-at in
+    let x = c .before .before .dx-at in
+    let e = simp (toZ-ofZ, dx-fits (c .before), dy-fits (c .before)) at (c .size-of .ensures) in
+    let u = unlabelled-by-size (x .result) (y .result) (x .ensures .1) (y .ensures .1) in (
+      simp (x .ensures .0, y .ensures .0) at e,
+      (rw e (size-most _ _ (x .ensures .1) (y .ensures .1)), simp (x .ensures .0, y .ensures .0) at (rw (← e) at u)),
+    )
 
 pub size-at-spec : {M : Type 1} → statement M
 size-at-spec = tie.close (tie.spec (λ c κs. search needs) (λ c κs. search needs) size-of-requires returns)

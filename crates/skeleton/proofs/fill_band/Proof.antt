@@ -1,11 +1,11 @@
--- `skeleton::fill_band` meets its contract: a row of the sheet is measured, the band of any other is blank.
+-- `skeleton::fill_band` meets its contract: a row of the sheet is measured and looked up, the band of any other is blank.
 -- Assumes nothing.
 use Prim.Native.Nat.{_+_, _*_, _≤_}
 use native.Mathlib.Nat.{mul-le-mul-right}
 use native.Mathlib.Omega.{arith}
 use borrow.Author.Needs.{needs}
 use borrow.Author.Tests.{le-leb, lt-leb}
-use Rattle.skeleton.proofs.Bands.{band-measured, band-blank}
+use Rattle.skeleton.proofs.Bands.{band-taken, band-blank}
 use Rattle.skeleton.proofs.fill_band.Statement.{statement}
 use Rattle.skeleton.proofs.fill_band.Tie as tie
 
@@ -15,8 +15,9 @@ on-sheet c = omega (arith, mul-le-mul-right (c .before .before .before .before .
 
 returns : tie.Need-returns
 returns c =
-    let r = c .before .before in
-    band-measured (r .measure-row .ensures) (r .before .before .if1 .taken)
+    let t = c .before .before in
+    let r = t .before .before .before .before in
+    band-taken (r .measure-row .ensures) (t .take-row .ensures) (r .before .before .if1 .taken)
 
 returns-2 : tie.Need-returns-2
 returns-2 c =
@@ -30,7 +31,8 @@ fill-band-spec =
     tie.close
     (tie.spec
     (λ c. omega (arith, on-sheet c))
-    (λ c κs. let s = c .before .before .before .before .before in (omega (arith, on-sheet (c .before)), s .pre .1))
+    (λ c κs. let s = c .before .before .before .before .before in (omega (arith, on-sheet (c .before)), s .pre .1 .1 .1))
+    (λ c κs. search needs)
     (λ c. search needs)
     returns
     (λ c κs. search needs)

@@ -1,43 +1,36 @@
 -- `skeleton::measure_row` meets its contract. The invariant: the first x columns are measured.
 -- Assumes nothing.
-use mathlib.Core.Path.{_≡_, ap₂, _∙_}
+use mathlib.Core.Path.{_≡_, sym, ap₂, _∙_}
 use mathlib.Core.Bool.{Bool, cond}
 use Prim.Native.Nat.{ℕ, _-_, _≤_}
 use native.Mathlib.Omega.{arith}
-use lib.ListN.{length-set}
-use Rattle.skeleton.specs.Bands.{BandFilled}
-use Rattle.skeleton.proofs.Bands.{listed-at, measured-none, measured-more}
+use Rattle.skeleton.specs.Bands.{Measured}
+use Rattle.skeleton.proofs.Bands.{measured-none, measured-more}
 use Rattle.skeleton.proofs.measure_row.Statement.{statement}
 use Rattle.skeleton.proofs.measure_row.Tie as tie
 
 abbrev Inv-loop : tie.InvT-loop
-Inv-loop map base w g4 g8 band₀ x₀ band x = BandFilled map base w x band × (x ≤ w)
+Inv-loop map base w band₀ x₀ band x = Measured map base w x band × (x ≤ w)
 
 abbrev μ-loop : tie.MeasureT-loop
-μ-loop map base w g4 g8 band₀ x₀ band x = w - x
+μ-loop map base w band₀ x₀ band x = w - x
 
 loop-holds : tie.Need-loop-holds Inv-loop μ-loop
-loop-holds c = (measured-none (c .before .before .before .pre .1 .1 .1), omega arith)
+loop-holds c = (measured-none (c .before .pre .1), omega arith)
 
 loop-again : tie.Need-loop-again Inv-loop μ-loop
 loop-again c =
-    let s = c .before in
-    let o = s .before in
-    let u = o .before in
-    let n = u .before in
-    let l = n .before .before in
-    let p = l .before .before .before .before .pre in
-    let k = n .size-at .result in (
-      measured-more (l .loop .inv .0) (omega arith) (p .0 .1)
-          (o .own-size .ensures ∙ ap₂ (λ (t : Bool) (v : ℕ). cond t 0 v) (u .unlabelled-at .ensures) (n .size-at .ensures .0))
-          (s .taken-off .ensures ∙ listed-at (p .1 .0) k ∙ rw (n .size-at .ensures .0)) (c .taken-off2 .ensures ∙ listed-at (p .1 .1 .0) k ∙ rw (n .size-at .ensures .0)),
+    let n = c .before .size-at .ensures in
+    let l = c .before .before .before in (
+      measured-more (l .loop .inv .0) (omega arith) (l .before .before .pre .0 .1)
+          (c .own-size .ensures ∙ ap₂ (λ (t : Bool) (v : ℕ). cond t 0 v) (sym (n .1 .1)) (n .0)),
       omega arith,
     )
 
 returns : tie.Need-returns Inv-loop μ-loop
 returns c =
     let l = c .before in
-    let n : l .loop .x ≡ l .before .before .before .before .args .w = omega arith in
+    let n : l .loop .x ≡ l .before .before .args .w = omega arith in
     rw n at (l .loop .inv .0)
 
 pub measure-row-spec : {M : Type 1} → statement M
@@ -49,22 +42,12 @@ measure-row-spec =
     loop-holds
     (λ c. omega arith)
     (λ c κs. omega arith)
-    (λ c. omega arith)
-    (λ c κs. omega arith)
     (λ c κs. tt)
     (λ c. omega arith)
     (λ c. omega arith)
-    (λ c. omega arith)
-    (λ c κs. omega arith)
-    (λ c. omega arith)
-    (λ c. omega arith)
-    (λ c. simp length-set (omega (arith, c .before .before .before .before .before .loop .inv .0 .framed .long)))
-    (λ c κs. omega arith)
-    (λ c. omega arith)
-    (λ c. omega arith)
-    (λ c. simp length-set (omega (arith, c .before .before .before .before .before .before .loop .inv .0 .framed .long)))
+    (λ c. omega (arith, c .before .before .before .loop .inv .0 .framed .long))
     (λ c. omega arith)
     (λ c. omega arith)
     loop-again
-    (λ c. omega (arith, c .before .loop .inv .0 .framed .long, c .before .before .before .before .before .pre .1 .1 .1 .long))
+    (λ c. omega (arith, c .before .loop .inv .0 .framed .long, c .before .before .before .pre .1 .long))
     returns)
