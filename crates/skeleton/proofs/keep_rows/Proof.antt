@@ -9,10 +9,10 @@ use Rattle.skeleton.proofs.keep_rows.Statement.{statement}
 use Rattle.skeleton.proofs.keep_rows.Tie as tie
 
 abbrev Inv-loop : tie.InvT-loop
-Inv-loop map out₀ w h g4 g8 a₀ b₀ c₀ y₀ out a b c y = Turning map w h y out a b c
+Inv-loop map out₀ w h sides corners a₀ b₀ c₀ y₀ out a b c y = Turning map w h y out a b c
 
 abbrev μ-loop : tie.MeasureT-loop
-μ-loop map out₀ w h g4 g8 a₀ b₀ c₀ y₀ out a b c y = h - y
+μ-loop map out₀ w h sides corners a₀ b₀ c₀ y₀ out a b c y = h - y
 
 -- the way back from the loop and from each turn
 abbrev start : tie.At-loop Inv-loop μ-loop → tie.Start Inv-loop μ-loop
