@@ -34,8 +34,8 @@ module _ {start n : ℕ} {f : ℕ → ℕ} {s : List ℕ} where
   part-other : (p v : ℕ) → Part start n f s → ((i : ℕ) → i < n → start + i ≢ p) → Part start n f (set s p v)
   part-other p v r d = record { entry = λ i m. getD-set-other s p (start + i) v 0 (d i m) ∙ r .entry i m }
 
--- a write at another place leaves the ends of the parts as they are
-framed-set : {w : ℕ} {s : List ℕ} (p v : ℕ) → Framed w s → ((k : ℕ) → k ≤ 2 → (2050 * k ≢ p) × (2050 * k + (w + 1) ≢ p)) → Framed w (set s p v)
+-- a write at another place leaves the ends as they are
+framed-set : {w : ℕ} {s : List ℕ} (p v : ℕ) → Framed w s → ((k : ℕ) → k ≤ 1 → (2050 * k ≢ p) × (2050 * k + (w + 1) ≢ p)) → Framed w (set s p v)
 framed-set {w} {s} p v f d = record {
   long = length-set s p v ∙ f .long;
   left = λ k l. getD-set-other s p (2050 * k) v 0 (d k l .0) ∙ f .left k l;

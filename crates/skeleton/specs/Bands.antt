@@ -36,11 +36,11 @@ onSheet w h f i j = cond (onSide w i && onSide h j) (f (index w (i - 1) (j - 1))
 pub record Part (start n : ℕ) (f : ℕ → ℕ) (s : List ℕ) : Type 0 where
   pub entry : (i : ℕ) → i < n → getD s (start + i) 0 ≡ f i
 
--- 0 stands at both ends of each part
+-- 0 stands at both ends of the parts for sides and for corners
 pub record Framed (w : ℕ) (s : List ℕ) : Type 0 where
   pub long : length s ≡ 6150
-  pub left : (k : ℕ) → k ≤ 2 → getD s (2050 * k) 0 ≡ 0
-  pub right : (k : ℕ) → k ≤ 2 → getD s (2050 * k + (w + 1)) 0 ≡ 0
+  pub left : (k : ℕ) → k ≤ 1 → getD s (2050 * k) 0 ≡ 0
+  pub right : (k : ℕ) → k ≤ 1 → getD s (2050 * k + (w + 1)) 0 ≡ 0
 
 -- every number is 0
 pub record Blank (s : List ℕ) : Type 0 where
