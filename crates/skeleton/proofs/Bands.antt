@@ -1,4 +1,4 @@
--- Bands: how a part is filled, how a row is measured and taken column by column, and when a taken or blank band is that of a row.
+-- Bands: how a part is filled, how a row is measured and looked up column by column, and when a band, filled so or blank, is that of a row.
 -- Assumes nothing.
 use mathlib.Core.Path.{_≡_, refl, sym, ap, _∙_}
 use mathlib.Core.Logic.{_≢_}
@@ -17,7 +17,7 @@ use Rattle.raster.specs.Map.{dxAt, dyAt, sizeAt, unlabelledAt}
 use Rattle.raster.specs.VectorLaws.{unlabelled-size}
 use Rattle.skeleton.specs.Table.{g}
 use Rattle.skeleton.specs.Skeleton.{onSide}
-use Rattle.skeleton.specs.Bands.{counted, ownAt, takenAt, onSheet, Part, Framed, Blank, Measured, Taken, Band}
+use Rattle.skeleton.specs.Bands.{counted, ownAt, takenAt, onSheet, Part, Framed, Blank, Measured, LookedUp, Band}
 
 pub part-none : {start : ℕ} {f : ℕ → ℕ} {s : List ℕ} → Part start 0 f s
 part-none = record { entry = λ i l. absurd (omega arith) }
@@ -56,13 +56,13 @@ module _ {m : List ℤ} {base w : ℕ} where
   }
 
 module _ {w : ℕ} {s : List ℕ} where
-  pub taken-none : Framed w s → Taken w 0 s s
-  taken-none f = record { framed = f; sizes = record { entry = λ i l. refl }; sides = part-none; corners = part-none }
+  pub looked-up-none : Framed w s → LookedUp w 0 s s
+  looked-up-none f = record { framed = f; sizes = record { entry = λ i l. refl }; sides = part-none; corners = part-none }
 
-  pub taken-more : {n a b : ℕ} {t : List ℕ} → Taken w n s t → n < w → w ≤ 2048
+  pub looked-up-more : {n a b : ℕ} {t : List ℕ} → LookedUp w n s t → n < w → w ≤ 2048
       → a ≡ g false (counted (getD s (4101 + n) 0)) → b ≡ g true (counted (getD s (4101 + n) 0))
-      → Taken w (n + 1) s (set (set t (1 + n) a) (2051 + n) b)
-  taken-more {n} {a} {b} {t} r l few e f =
+      → LookedUp w (n + 1) s (set (set t (1 + n) a) (2051 + n) b)
+  looked-up-more {n} {a} {b} {t} r l few e f =
       let long = r .framed .long in
       let one : length (set t (1 + n) a) ≡ 6150 = length-set t (1 + n) a ∙ long in
       record {
@@ -117,9 +117,9 @@ blank-framed {w} {s} b few = record {
 }
 
 module _ {m : List ℤ} {w h : ℕ} {s : List ℕ} where
-  -- a measured row with what its pixels take off
-  pub band-taken : {y : ℕ} {t : List ℕ} → Measured m (y * w) w w s → Taken w w s t → y < h → Band m w h (y + 1) t
-  band-taken {y} {t} r k l = record {
+  -- a row that is measured and looked up
+  pub band-looked-up : {y : ℕ} {t : List ℕ} → Measured m (y * w) w w s → LookedUp w w s t → y < h → Band m w h (y + 1) t
+  band-looked-up {y} {t} r k l = record {
     framed = k .framed;
     sizes = λ z e q. let d : z ≡ y = omega arith in rw d (record { entry = λ x a. k .sizes .entry x a ∙ r .sizes .entry x a });
     sides = ended (takenAt false m) (k .framed .left 0 (omega arith)) (k .framed .right 0 (omega arith)) (by-size false (k .sides)) l;

@@ -53,7 +53,7 @@ pub record Measured (m : List ℤ) (base w n : ℕ) (s : List ℕ) : Type 0 wher
   pub sizes : Part 4101 n (λ x. ownAt m (base + x)) s
 
 -- s with what the first n columns take off, by their sizes, in the other two parts
-pub record Taken (w n : ℕ) (s t : List ℕ) : Type 0 where
+pub record LookedUp (w n : ℕ) (s t : List ℕ) : Type 0 where
   pub framed : Framed w t
   pub sizes : Part 4101 w (λ x. getD s (4101 + x) 0) t
   pub sides : Part 1 n (λ x. g false (counted (getD s (4101 + x) 0))) t

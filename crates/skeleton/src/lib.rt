@@ -5,8 +5,8 @@
 // of size 0 is kept anyway. So each pixel is looked up in the tables once, and compared with its neighbours' entries with no test of the sheet's edges.
 //
 // A row is measured first and looked up after, since a processor measures several pixels at a time and looks up one. The sizes stand last: were they first,
-// each would be read soon after a place 8 KiB on had been written, and processors that tell the two apart late would wait. The tables are lent from above,
-// since a constant that is indexed is laid out anew at each look.
+// each would be read soon after a place 8 KiB on had been written, and a processor that compares the low bits of addresses first would wait. The tables are
+// lent from above, since a constant that is indexed is laid out anew at each look.
 ghost use mathlib.Core.Path.{_≡_};
 ghost use mathlib.Core.Bool.{true, false, cond, _||_};
 ghost use Prim.Native.Nat.{_+_, _*_, _≤_, _<_};
@@ -15,7 +15,7 @@ ghost use lib.ListN.{length};
 ghost use Rattle.raster.specs.Rows.{RowWritten};
 ghost use Rattle.skeleton.specs.Skeleton.{skeletonOf};
 ghost use Rattle.skeleton.specs.Table.{g};
-ghost use Rattle.skeleton.specs.Bands.{Listed, counted, Framed, Blank, Measured, Taken, Band, keptIn, Turning};
+ghost use Rattle.skeleton.specs.Bands.{Listed, counted, Framed, Blank, Measured, LookedUp, Band, keptIn, Turning};
 
 // The tables (document 02, C-13): n − g4(n) for n from 1 to 400, a byte each, twenty to a line, in hexadecimal. As bytes of a string they keep their lines.
 const SIDES: [u8; 400] = *b"\
@@ -72,7 +72,7 @@ fn side_table() -> [u8; 400]
     SIDES
 }
 
-// The table for corners.
+// The table for corners, with its promise.
 fn corner_table() -> [u8; 400]
     ensures { λ r. ⌜ Listed true r ⌝ }
 {
@@ -125,10 +125,10 @@ fn measure_row(map: &[i16], base: usize, w: usize, band: &mut [u32])
 }
 
 // What each pixel of a measured row takes off, in the other two parts.
-fn take_row(w: usize, sides: &[u8], corners: &[u8], band: &mut [u32])
+fn look_up_row(w: usize, sides: &[u8], corners: &[u8], band: &mut [u32])
     requires { ⌜ w ≤ 2048 ⌝ }
     requires { ⌜ Listed false (now sides) × (Listed true (now corners) × Framed w (now band)) ⌝ }
-    ensures { λ _. ⌜ Taken w w (now (band .entry)) (now (band .exit)) ⌝ }
+    ensures { λ _. ⌜ LookedUp w w (now (band .entry)) (now (band .exit)) ⌝ }
 {
     for x in 0..w {
         let n = band[4101 + x];
@@ -163,7 +163,7 @@ fn fill_band(
 {
     if y < h {
         measure_row(map, y * w, w, band);
-        take_row(w, sides, corners, band);
+        look_up_row(w, sides, corners, band);
         return;
     }
     clear(band);

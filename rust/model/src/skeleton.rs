@@ -94,7 +94,7 @@ mod tests {
         assert_eq!([g4(1), g8(1), g4(400), g8(400)], [0, 0, 361, 346]);
     }
 
-    /// Document 02, C-13: a byte holds what g lacks of n.
+    /// Document 02, C-13: n − g(n) fits a byte.
     #[test]
     fn differences() {
         let largest = |g: fn(u64) -> u64| (1..=400).map(|n| n - g(n)).max();

@@ -5,7 +5,7 @@ use native.Mathlib.Nat.{mul-le-mul-right}
 use native.Mathlib.Omega.{arith}
 use borrow.Author.Needs.{needs}
 use borrow.Author.Tests.{le-leb, lt-leb}
-use Rattle.skeleton.proofs.Bands.{band-taken, band-blank}
+use Rattle.skeleton.proofs.Bands.{band-looked-up, band-blank}
 use Rattle.skeleton.proofs.fill_band.Statement.{statement}
 use Rattle.skeleton.proofs.fill_band.Tie as tie
 
@@ -17,7 +17,7 @@ returns : tie.Need-returns
 returns c =
     let t = c .before .before in
     let r = t .before .before .before .before in
-    band-taken (r .measure-row .ensures) (t .take-row .ensures) (r .before .before .if1 .taken)
+    band-looked-up (r .measure-row .ensures) (t .look-up-row .ensures) (r .before .before .if1 .taken)
 
 returns-2 : tie.Need-returns-2
 returns-2 c =
