@@ -7,6 +7,7 @@ ghost use mathlib.Core.Path.{_≡_};
 ghost use Prim.Native.Nat.{_+_, _*_, _≤_, _<_};
 ghost use lib.ListN.{length};
 ghost use Rattle.raster.specs.Vector.{Short};
+ghost use Rattle.exact.specs.Nearest.{scratchNeed};
 use libc::STDOUT_FILENO;
 use session::Session;
 
@@ -152,7 +153,7 @@ fn scanned_bare() {
 // One sheet.
 fn show_exact(sheet: &[u8], map: &mut [i16], scratch: &mut [i16], w: usize, h: usize)
     requires { ⌜ (w ≤ 2048) × (h ≤ 2048) ⌝ }
-    requires { ⌜ (length (now sheet) ≡ h * w) × ((length (now map) ≡ 2 * (h * w)) × (h * w ≤ length (now scratch))) ⌝ }
+    requires { ⌜ (length (now sheet) ≡ h * w) × ((length (now map) ≡ 2 * (h * w)) × (scratchNeed w ≤ length (now scratch))) ⌝ }
 {
     exact::exact(sheet, map, scratch, w, h);
     show_map(map, w, h);
@@ -169,7 +170,7 @@ fn exact_board() {
 fn exact_row(first: u8, last: u8) {
     let sheet = [first, 0, last];
     let mut map = [0i16; 6];
-    let mut scratch = [0i16; 3];
+    let mut scratch = [0i16; 12];
     show_exact(&sheet, &mut map, &mut scratch, 3, 1);
 }
 
@@ -179,7 +180,7 @@ fn arrow_head() {
     sheet[82] = 1;
     sheet[109] = 1;
     let mut map = [0i16; 224];
-    let mut scratch = [0i16; 112];
+    let mut scratch = [0i16; 56];
     show_scan(&sheet, &mut map, 14, 8, true);
     show_exact(&sheet, &mut map, &mut scratch, 14, 8);
 }
@@ -204,7 +205,7 @@ fn show_skeleton(
     h: usize,
 )
     requires { ⌜ (w ≤ 2048) × (h ≤ 2048) ⌝ }
-    requires { ⌜ (length (now sheet) ≡ h * w) × ((length (now map) ≡ 2 * (h * w)) × (h * w ≤ length (now scratch))) ⌝ }
+    requires { ⌜ (length (now sheet) ≡ h * w) × ((length (now map) ≡ 2 * (h * w)) × (scratchNeed w ≤ length (now scratch))) ⌝ }
     requires { ⌜ (length (now marks) ≡ h * w) × (length (now out) ≡ h * w) ⌝ }
 {
     exact::exact(sheet, map, scratch, w, h);
@@ -218,7 +219,7 @@ fn show_skeleton(
 fn five_in_a_row() {
     let sheet = [1, 0, 0, 0, 1];
     let mut map = [0i16; 10];
-    let mut scratch = [0i16; 5];
+    let mut scratch = [0i16; 20];
     let mut marks = [0u8; 5];
     let mut out = [0u8; 5];
     show_skeleton(&sheet, &mut map, &mut scratch, &mut marks, &mut out, 5, 1);
@@ -231,7 +232,7 @@ fn drawn() {
     raster::fill_rectangle(&mut sheet, 24, 9, 18, 1, 4, 3, 1);
     raster::fill_rectangle(&mut sheet, 24, 9, 9, 7, 1, 1, 1);
     let mut map = [0i16; 432];
-    let mut scratch = [0i16; 216];
+    let mut scratch = [0i16; 96];
     let mut marks = [0u8; 216];
     let mut out = [0u8; 216];
     show_skeleton(&sheet, &mut map, &mut scratch, &mut marks, &mut out, 24, 9);
@@ -244,7 +245,7 @@ fn shrunk_whole(q: u32)
 {
     let mut sheet = [1u8; 9];
     let mut map = [0i16; 18];
-    let mut scratch = [0i16; 9];
+    let mut scratch = [0i16; 12];
     morphology::shrink(&mut sheet, &mut map, &mut scratch, 3, 3, q);
     picture(&sheet, 3, 3);
 }

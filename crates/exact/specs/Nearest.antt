@@ -62,19 +62,19 @@ toRow y (foundAt i j) = pos j -ℤ pos y
 unfoldable pub exactMap : (copper : Mask) (w h : ℕ) → List ℤ
 exactMap copper w h = vectors w h (λ x y. toColumn x (nearest copper x y w h)) (λ x y. toRow y (nearest copper x y w h))
 
--- ---- scratch: Calls, build
+-- ---- scratch: Calls, build; document 02, C-22
 
--- how many numbers it must have for a sheet of w × h
-abbrev pub scratchNeed : (w h : ℕ) → ℕ
-scratchNeed w h = h * w
+-- how many numbers it must have for a sheet of w columns, however many rows
+abbrev pub scratchNeed : (w : ℕ) → ℕ
+scratchNeed w = 4 * w
 
 -- the first n numbers at 0, the rest untouched
 abbrev pub cleared : (n : ℕ) → List ℤ → List ℤ
 cleared n scratch = replicate n (pos 0) ++ drop n scratch
 
 -- what is left in it
-abbrev pub scratchLeft : (w h : ℕ) → List ℤ → List ℤ
-scratchLeft w h scratch = cleared (scratchNeed w h) scratch
+abbrev pub scratchLeft : (w : ℕ) → List ℤ → List ℤ
+scratchLeft w scratch = cleared (scratchNeed w) scratch
 
 -- the gate at a pixel of size a: a > q
 abbrev pub gate : Gate

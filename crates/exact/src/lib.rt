@@ -3,7 +3,7 @@
 // `columns::ways` leaves in the first half of the map, a number a pixel, how far the nearest copper of each pixel's column is. Then each row is worked out
 // by itself: a column costs the square of its way, and the lower envelope of the columns' parabolas gives the nearest column of each pixel. Long runs of
 // copper split a row into parts with an envelope each. The rows are worked out from the last to the first, since the vectors of row y stand behind the
-// ways of the rows above it. The working rows are local ones of 2,048 numbers.
+// ways of the rows above it. The ways of the row at hand stand in scratch; the other working rows are local ones of 2,048 numbers.
 ghost use mathlib.Core.Path.{_≡_};
 ghost use mathlib.Core.Bool.{_&&_};
 ghost use mathlib.Core.List.{_++_};
@@ -305,16 +305,15 @@ fn solve_rows(
     }
 }
 
-// All rows, from the last, in local working rows.
-fn solve(map: &mut [i16], w: usize, h: usize)
-    requires { ⌜ (2 * (h * w) ≤ length (now map)) × (w ≤ 2048) ⌝ }
+// All rows, from the last. The working rows but `ways` are local.
+fn solve(map: &mut [i16], w: usize, h: usize, ways: &mut [i16])
+    requires { ⌜ (2 * (h * w) ≤ length (now map)) × ((w ≤ 2048) × (w ≤ length (now ways))) ⌝ }
     ensures { λ _. ⌜ Solved w h (now (map .entry)) (now (map .exit)) ⌝ }
 {
-    let mut ways = [0i16; 2048];
     let mut cost = [0u32; 2048];
     let mut site = [0u16; 2048];
     let mut start = [0u16; 2048];
-    solve_rows(map, w, h, &mut ways, &mut cost, &mut site, &mut start);
+    solve_rows(map, w, h, ways, &mut cost, &mut site, &mut start);
 }
 
 // ---- the map
@@ -324,26 +323,28 @@ fn zero(scratch: &mut [i16], n: usize)
     requires { ⌜ n ≤ length (now scratch) ⌝ }
     ensures { λ _. ⌜ now (scratch .exit) ≡ cleared n (now (scratch .entry)) ⌝ }
 {
-    for i in 0..n {
+    let mut i: usize = 0;
+    while i < n {
         scratch[i] = 0;
+        i += 1;
     }
 }
 
 // How many scratch numbers `exact` needs.
-pub fn scratch_need(w: u16, h: u16) -> usize
-    ensures { λ r. ⌜ r ≡ scratchNeed w h ⌝ }
+pub fn scratch_need(w: u16) -> usize
+    ensures { λ r. ⌜ r ≡ scratchNeed w ⌝ }
 {
-    raster::area(w, h)
+    4 * (w as usize)
 }
 
-// The exact map of a sheet of w × h pixels. The scratch that it needs is left at 0.
+// The exact map of a sheet of w × h pixels. Scratch holds the ways of the row at hand; as much of it as is asked for is left at 0.
 pub fn exact(sheet: &[u8], map: &mut [i16], scratch: &mut [i16], w: usize, h: usize)
     requires { ⌜ (w ≤ 2048) × (h ≤ 2048) ⌝ }
-    requires { ⌜ (length (now sheet) ≡ h * w) × ((length (now map) ≡ 2 * (h * w)) × (scratchNeed w h ≤ length (now scratch))) ⌝ }
+    requires { ⌜ (length (now sheet) ≡ h * w) × ((length (now map) ≡ 2 * (h * w)) × (scratchNeed w ≤ length (now scratch))) ⌝ }
     ensures map_left { λ _. ⌜ now (map .exit) ≡ exactMap (copperOf (now (sheet .entry)) w) w h ⌝ }
-    ensures scratch_left { λ _. ⌜ now (scratch .exit) ≡ scratchLeft w h (now (scratch .entry)) ⌝ }
+    ensures scratch_left { λ _. ⌜ now (scratch .exit) ≡ scratchLeft w (now (scratch .entry)) ⌝ }
 {
     columns::ways(sheet, map, w, h);
-    solve(map, w, h);
-    zero(scratch, h * w);
+    solve(map, w, h, &mut scratch[..w]);
+    zero(scratch, 4 * w);
 }

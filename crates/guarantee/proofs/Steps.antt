@@ -22,7 +22,7 @@ use Rattle.cutter.proofs.Walk.{reached, on-the-way}
 use Rattle.session.specs.declared.Session.{Session}
 use Rattle.session.specs.State.{sound, active, cutterUp, stale, builtBy, cutterAs, ownCutter}
 use Rattle.session.specs.Maps.{engineMap}
-use Rattle.session.specs.Refusals.{openTable, fillTable, buildTable, placeRows, placeTable, runRows, runTable, resizeTable, readTable}
+use Rattle.session.specs.Refusals.{openTable, fillTable, buildTable, buildTableBy, placeRows, placeTable, runRows, runTable, resizeTable, resizeTableBy, readTable}
 use Rattle.session.specs.Calls.{filledBy, runSession}
 use Rattle.session.specs.Lists.{Lent, Call, opening, paint, erase, build, place, run, lift, expand, shrink, skeleton, rebuild, aside, World, world, lentTo, tableOf, answer, left, worldAfter}
 use Rattle.session.proofs.Granted.{open-granted, fill-granted, Building, build-granted, place-done, place-stopped, RunGranted, run-done, run-stopped, resize-granted}
@@ -167,13 +167,13 @@ module _ {b : Board} {w : World} (inv : Inv b w) where
         stale-inv (resize-granted s (w .sheet) (w .map) scratch q refl e .open-sheet) sheet (unmapped (w .map)) copper new
 
     pub expand-step : StepHolds (expand q scratch) b w
-    unfolding resizeTable
+    unfolding resizeTable resizeTableBy
     expand-step =
         quiet-step (expand q scratch) refl (λ a c r. elim [ ])
         (resize-inv _ _ (λ i j k l. rw (← inv .agree .width, ← inv .agree .height) (expanded-copper (s .width) (s .height) i j k l q (w .sheet) (b .copper) same)))
 
     pub shrink-step : StepHolds (shrink q scratch) b w
-    unfolding resizeTable
+    unfolding resizeTable resizeTableBy
     shrink-step =
         quiet-step (shrink q scratch) refl (λ a c r. elim [ ])
         (resize-inv _ _ (λ i j k l. rw (← inv .agree .width, ← inv .agree .height) (shrunk-copper (s .width) (s .height) i j k l q (w .sheet) (b .copper) same)))
@@ -204,7 +204,7 @@ module _ {b : Board} {w : World} (inv : Inv b w) where
         (λ c. record { whole = g .held; map-is = refl }))
 
     pub build-step : StepHolds (build e scratch) b w
-    unfolding buildTable
+    unfolding buildTable buildTableBy
     build-step =
         quiet-step (build e scratch) refl (λ a c q. elim [ ]) (λ p. built-inv (build-granted s (w .sheet) (w .map) scratch e refl p))
 

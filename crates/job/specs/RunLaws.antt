@@ -14,7 +14,7 @@ use Rattle.raster.specs.Refusal.{firstOf}
 use Rattle.raster.specs.RefusalLaws.{every, first-every}
 use Rattle.raster.specs.Tests.{and-left, and-right}
 use Rattle.session.specs.declared.Session.{Session}
-use Rattle.session.specs.Refusals.{openTable, fillTable, buildTable, placeRows, placeTable, runRows, runTable, resizeTable, readTable}
+use Rattle.session.specs.Refusals.{openTable, fillTable, buildTable, buildTableBy, placeRows, placeTable, runRows, runTable, resizeTable, resizeTableBy, readTable}
 use Rattle.session.specs.Lists as calls
 use Rattle.session.specs.Lists.{World, tableOf, answer, leftBy}
 use Rattle.records.specs.declared.Record.{Record}
@@ -29,7 +29,7 @@ use Rattle.job.specs.Execute.{Executed, Buffers, JobRunning}
 -- ---- no answer has more than two digits
 
 small : (c : calls.Call) (w : World) → every (λ n. ltb n 100) (tableOf c w) ≡ true
-unfolding openTable fillTable buildTable placeRows placeTable runRows runTable resizeTable readTable
+unfolding openTable fillTable buildTable buildTableBy placeRows placeTable runRows runTable resizeTable resizeTableBy readTable
 small (calls.opening a b o) w = refl
 small (calls.paint x y c r) w = refl
 small (calls.erase x y c r) w = refl

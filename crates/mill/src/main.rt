@@ -21,7 +21,7 @@ fn read_job(job: &mut [u8]) -> usize
 }
 
 fn main() {
-    // One byte more than a job file may have; sheets of 8,192 pixels; nine bytes of text for each of at most 16,384 records.
+    // One byte more than a job file may have; sheets of 8,192 pixels; scratch for the widest, 4 × 2,048; nine bytes of text for each of at most 16,384 records.
     let mut file = [0u8; 65537];
     let n = read_job(&mut file);
     let mut sheet = [0u8; 8192];

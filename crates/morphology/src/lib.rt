@@ -117,10 +117,10 @@ fn root_up_to(q: u32, n: usize) -> usize
 // A pixel is copper afterwards if its true squared distance is at most q. The map is left unlabelled, scratch as after exact.
 pub fn expand(sheet: &mut [u8], map: &mut [i16], scratch: &mut [i16], w: usize, h: usize, q: u32)
     requires { ⌜ (w ≤ 2048) × ((h ≤ 2048) × (q ≤ maxQ)) ⌝ }
-    requires { ⌜ (length (now sheet) ≡ h * w) × ((length (now map) ≡ 2 * (h * w)) × (scratchNeed w h ≤ length (now scratch))) ⌝ }
+    requires { ⌜ (length (now sheet) ≡ h * w) × ((length (now map) ≡ 2 * (h * w)) × (scratchNeed w ≤ length (now scratch))) ⌝ }
     ensures sheet_left { λ _. ⌜ now (sheet .exit) ≡ expanded w h q (now (sheet .entry)) ⌝ }
     ensures map_left { λ _. ⌜ now (map .exit) ≡ unmapped (now (map .entry)) ⌝ }
-    ensures scratch_left { λ _. ⌜ now (scratch .exit) ≡ scratchLeft w h (now (scratch .entry)) ⌝ }
+    ensures scratch_left { λ _. ⌜ now (scratch .exit) ≡ scratchLeft w (now (scratch .entry)) ⌝ }
 {
     exact::exact(sheet, map, scratch, w, h);
     threshold(map, sheet, w, h, q, 1, 0);
@@ -131,10 +131,10 @@ pub fn expand(sheet: &mut [u8], map: &mut [i16], scratch: &mut [i16], w: usize, 
 // next bare pixel is, the root of q which pixels are too near to the rim.
 pub fn shrink(sheet: &mut [u8], map: &mut [i16], scratch: &mut [i16], w: usize, h: usize, q: u32)
     requires { ⌜ (w ≤ 2048) × ((h ≤ 2048) × (q ≤ maxQ)) ⌝ }
-    requires { ⌜ (length (now sheet) ≡ h * w) × ((length (now map) ≡ 2 * (h * w)) × (scratchNeed w h ≤ length (now scratch))) ⌝ }
+    requires { ⌜ (length (now sheet) ≡ h * w) × ((length (now map) ≡ 2 * (h * w)) × (scratchNeed w ≤ length (now scratch))) ⌝ }
     ensures sheet_left { λ _. ⌜ now (sheet .exit) ≡ shrunk w h q (now (sheet .entry)) ⌝ }
     ensures map_left { λ _. ⌜ now (map .exit) ≡ unmapped (now (map .entry)) ⌝ }
-    ensures scratch_left { λ _. ⌜ now (scratch .exit) ≡ scratchLeft w h (now (scratch .entry)) ⌝ }
+    ensures scratch_left { λ _. ⌜ now (scratch .exit) ≡ scratchLeft w (now (scratch .entry)) ⌝ }
 {
     flip(sheet);
     exact::exact(sheet, map, scratch, w, h);

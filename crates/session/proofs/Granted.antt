@@ -19,7 +19,7 @@ use Rattle.cutter.specs.Gates.{knownEngine, OnSheet, mayStand, leavesSheet, blo
 use Rattle.cutter.proofs.Walk.{on-sheet}
 use Rattle.session.specs.declared.Session.{Session}
 use Rattle.session.specs.State.{side, cutterSound, mapSound, sheetSound, sound, active, cutterOf, ownCutter}
-use Rattle.session.specs.Refusals.{notSheet, notMap, shortScratch, openTable, fillTable, buildTable, placeRows, placeTable, runRows, runTable, resizeTable, readTable}
+use Rattle.session.specs.Refusals.{notSheet, notMap, shortScratch, openTable, fillTable, buildTable, buildTableBy, placeRows, placeTable, runRows, runTable, resizeTable, resizeTableBy, readTable}
 
 both : (a b : Bool) → a && b ≡ true → (a ≡ true) × (b ≡ true)
 both a b e = (and-left a b e, and-right a b e)
@@ -95,7 +95,7 @@ pub record Building (s : Session) (sheet : List ℕ) (map scratch : List ℤ) (e
 
 pub build-granted : (s : Session) (sheet : List ℕ) (map scratch : List ℤ) (e : ℕ) {answer : ℕ}
     → answer ≡ firstOf (buildTable s sheet map scratch e) → answer ≡ 0 → Building s sheet map scratch e
-unfolding buildTable
+unfolding buildTable buildTableBy
 build-granted s sheet map scratch e table done =
     let f = none-holds _ refl (sym table ∙ done) in
     let others = or-right (notSheet s sheet) _ (f 1) in
@@ -191,12 +191,12 @@ pub record Resizing (s : Session) (sheet : List ℕ) (map scratch : List ℤ) (q
   pub open-sheet : active s ≡ true
   pub held : length sheet ≡ s .height * s .width
   pub mapped : length map ≡ 2 * (s .height * s .width)
-  pub spare : scratchNeed (s .width) (s .height) ≤ length scratch
+  pub spare : scratchNeed (s .width) ≤ length scratch
   pub small : q ≤ maxQ
 
 pub resize-granted : (s : Session) (sheet : List ℕ) (map scratch : List ℤ) (q : ℕ) {answer : ℕ}
     → answer ≡ firstOf (resizeTable s sheet map scratch q) → answer ≡ 0 → Resizing s sheet map scratch q
-unfolding resizeTable
+unfolding resizeTable resizeTableBy
 resize-granted s sheet map scratch q table done =
     let f = none-holds _ refl (sym table ∙ done) in
     let others = or-right (notSheet s sheet) _ (f 1) in
@@ -211,7 +211,7 @@ resize-granted s sheet map scratch q table done =
 -- what expand and shrink below the session require
 pub resize-requires : {s : Session} {sheet : List ℕ} {map scratch : List ℤ} {q : ℕ} → Resizing s sheet map scratch q
     → ((s .width ≤ 2048) × ((s .height ≤ 2048) × (q ≤ maxQ)))
-    × ((length sheet ≡ s .height * s .width) × ((length map ≡ 2 * (s .height * s .width)) × (scratchNeed (s .width) (s .height) ≤ length scratch)))
+    × ((length sheet ≡ s .height * s .width) × ((length map ≡ 2 * (s .height * s .width)) × (scratchNeed (s .width) ≤ length scratch)))
 resize-requires {s} r = let l = active-limits s (r .open-sheet) in ((l .wide, (l .high, r .small)), (r .held, (r .mapped, r .spare)))
 
 -- ---- skeleton and rebuild

@@ -23,7 +23,7 @@ filledBy s x y cols rows v sheet = filled (s .width) (s .height) x y cols rows v
 
 -- scratch after exact on the session's sheet
 abbrev pub scratchBy : Session → List ℤ → List ℤ
-scratchBy s scratch = scratchLeft (s .width) (s .height) scratch
+scratchBy s scratch = scratchLeft (s .width) scratch
 
 -- run: the cutter is down where its steps end
 abbrev pub runSession : Session → (direction count : ℕ) → Session

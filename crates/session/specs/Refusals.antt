@@ -19,7 +19,7 @@ use Rattle.session.specs.State.{side, active, cutterOf, ownCutter}
 abbrev pub isMap : Session → List ℤ → Bool
 isMap s map = eqb (length map) (2 * (s .height * s .width))
 
--- a slice of other than one byte a pixel; of other than two numbers a pixel; of too few numbers
+-- a slice of other than one byte a pixel; of other than two numbers a pixel; scratch of too few numbers
 abbrev pub notSheet : Session → List ℕ → Bool
 notSheet s sheet = not (eqb (length sheet) (s .height * s .width))
 
@@ -27,7 +27,7 @@ abbrev pub notMap : Session → List ℤ → Bool
 notMap s map = not (isMap s map)
 
 abbrev pub shortScratch : Session → List ℤ → Bool
-shortScratch s scratch = ltb (length scratch) (scratchNeed (s .width) (s .height))
+shortScratch s scratch = ltb (length scratch) (scratchNeed (s .width))
 
 unfoldable pub openTable : List ℕ → (w h : ℕ) → Table
 openTable sheet w h = (not (side w && side h), 11) ∷ (not (eqb (length sheet) (h * w)), 12) ∷ []
@@ -40,13 +40,16 @@ fillTable s sheet x y cols rows =
     ∷ ((eqb cols 0 || eqb rows 0) || (ltb (s .width) (x + cols) || ltb (s .height) (y + rows)), 13)
     ∷ []
 
--- expand and shrink
-unfoldable pub resizeTable : Session → List ℕ → (map scratch : List ℤ) → (q : ℕ) → Table
-resizeTable s sheet map scratch q =
+-- expand and shrink; `short` says that scratch has too few numbers
+unfoldable pub resizeTableBy : (short : Bool) → Session → List ℕ → List ℤ → (q : ℕ) → Table
+resizeTableBy short s sheet map q =
     (not (active s), 30)
-    ∷ (notSheet s sheet || (notMap s map || shortScratch s scratch), 12)
+    ∷ (notSheet s sheet || (notMap s map || short), 12)
     ∷ (ltb maxQ q, 15)
     ∷ []
+
+unfoldable pub resizeTable : Session → List ℕ → (map scratch : List ℤ) → (q : ℕ) → Table
+resizeTable s sheet map scratch q = resizeTableBy (shortScratch s scratch) s sheet map q
 
 -- skeleton and rebuild: on a current exact map that has copper; `wrong` says that another lent slice is not one byte a pixel
 unfoldable pub readTable : Session → List ℤ → (wrong : Bool) → Table
@@ -64,12 +67,16 @@ skeletonTable s map out = readTable s map (notSheet s out)
 abbrev pub rebuildTable : Session → List ℤ → (marks out : List ℕ) → Table
 rebuildTable s map marks out = readTable s map (notSheet s marks || notSheet s out)
 
-unfoldable pub buildTable : Session → List ℕ → (map scratch : List ℤ) → (engine : ℕ) → Table
-buildTable s sheet map scratch e =
+-- build; only engine 1 asks for scratch
+unfoldable pub buildTableBy : (short : Bool) → Session → List ℕ → List ℤ → (engine : ℕ) → Table
+buildTableBy short s sheet map e =
     (not (active s), 30)
-    ∷ (notSheet s sheet || (notMap s map || (eqb e 1 && shortScratch s scratch)), 12)
+    ∷ (notSheet s sheet || (notMap s map || (eqb e 1 && short)), 12)
     ∷ (not (knownEngine e), 14)
     ∷ []
+
+unfoldable pub buildTable : Session → List ℕ → (map scratch : List ℤ) → (engine : ℕ) → Table
+buildTable s sheet map scratch e = buildTableBy (shortScratch s scratch) s sheet map e
 
 -- ---- place and run: the rows that look at numbers and lengths alone, then one that looks at pixels, which those before it let be read
 

@@ -100,7 +100,8 @@ fn fill(s: Session, sheet: &mut [u8], x: u16, y: u16, cols: u16, rows: u16, v: u
     answer
 }
 
-// Writes the engine's map.
+// Writes the engine's map. A scan that is called from two places is not compiled into this function, whose frame would then hold the scan's working row
+// while exact runs.
 fn write_map(s: Session, sheet: &[u8], map: &mut [i16], scratch: &mut [i16], engine: u16)
     requires { ⌜ firstOf (buildTable s (now sheet) (now map) (now scratch) engine) ≡ 0 ⌝ }
     ensures map_left { λ r. ⌜ now (map .exit) ≡ engineMap s (now (sheet .entry)) engine ⌝ }
@@ -112,7 +113,11 @@ fn write_map(s: Session, sheet: &[u8], map: &mut [i16], scratch: &mut [i16], eng
         exact::exact(sheet, map, scratch, w, h);
         return;
     }
-    scan::scan(sheet, map, w, h, engine == 2);
+    if engine == 2 {
+        scan::scan(sheet, map, w, h, true);
+        return;
+    }
+    scan::scan(sheet, map, w, h, false);
 }
 
 // The session with its cutter where the run ends.

@@ -55,7 +55,7 @@ pub fn resize_answer(s: Session, sheet: &[u8], map: &[i16], scratch: &[i16], q: 
     if !state::is_active(s) {
         return 30;
     }
-    let need = exact::scratch_need(s.width, s.height);
+    let need = exact::scratch_need(s.width);
     let n = pixels_of(s);
     if (sheet.len() != n) | (!is_map(s, map) | (scratch.len() < need)) {
         return 12;
@@ -93,7 +93,7 @@ pub fn build_answer(s: Session, sheet: &[u8], map: &[i16], scratch: &[i16], engi
     if !state::is_active(s) {
         return 30;
     }
-    let need = exact::scratch_need(s.width, s.height);
+    let need = exact::scratch_need(s.width);
     let n = pixels_of(s);
     let short = (engine == 1) & (scratch.len() < need);
     let slices = (sheet.len() != n) | (!is_map(s, map) | short);

@@ -153,8 +153,9 @@ impl Session {
         unsafe { ffi::abi_session_erase(self, sheet.as_mut_ptr(), sheet.len(), x, y, w, h) }
     }
 
-    /// Builds the map by engine 1 exact, 2 8SED or 3 4SED. It is then current, the cutter up. Only exact tests and writes scratch, and
-    /// leaves its first W × H numbers at 0. Refusals: 30, 12, 14.
+    /// Builds the map by engine 1 exact, 2 8SED or 3 4SED. It is then current, the cutter up. The map has 2 × W × H numbers. Exact needs
+    /// scratch of at least 4 × W numbers, of which it leaves the first 4 × W at 0 and the rest untouched; no other engine tests or writes
+    /// scratch. Refusals: 30, 12, 14.
     pub fn build(self, sheet: &[u8], map: &mut [i16], scratch: &mut [i16], engine: u16) -> Reply {
         let (map, map_len) = (map.as_mut_ptr(), map.len());
         // SAFETY: each pointer comes with the length of the slice it is from, map and scratch are lent to nobody else, and the function has
@@ -181,8 +182,9 @@ impl Session {
         unsafe { ffi::abi_session_lift(self) }
     }
 
-    /// Expands the sheet by q: a pixel is 1 afterwards if its true squared distance is at most q, otherwise 0. The map is left unlabelled
-    /// and not current, scratch as after exact, the cutter up. Refusals: 30, 12, 15.
+    /// Expands the sheet by q: a pixel is 1 afterwards if its true squared distance is at most q, otherwise 0. The map, of 2 × W × H
+    /// numbers, is left unlabelled and not current, the cutter up. Scratch of at least 4 × W numbers is needed and left as by exact, the
+    /// first 4 × W at 0 and the rest untouched. Refusals: 30, 12, 15.
     pub fn expand(self, sheet: &mut [u8], map: &mut [i16], scratch: &mut [i16], q: u32) -> Reply {
         let (map, map_len) = (map.as_mut_ptr(), map.len());
         // SAFETY: each pointer comes with the length of the slice it is from, the three slices are lent to nobody else, and the function

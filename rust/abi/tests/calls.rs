@@ -2,7 +2,7 @@
 
 use model::boards::{self, Board};
 use model::calls::Calls;
-use model::session::Fields;
+use model::session::{scratch_need, Fields};
 use soak::calls::{Call, Slices};
 use soak::library::Library;
 
@@ -33,6 +33,7 @@ on_either!(
     m7,
     c14,
     c16,
+    c22,
     limits,
     sides_that_no_sheet_has,
     no_call_could_hand_back,
@@ -50,8 +51,8 @@ fn told<S: Calls>((answer, session): (u32, S)) -> (u32, Fields) {
 /// A session with the sheet of a board and its map by an engine, and that map.
 fn built<S: Calls>(board: &Board, engine: u16) -> (Fields, Vec<i16>) {
     let (w, h) = board.sides();
-    let pixels = board.sheet.len();
-    let (mut sheet, mut map, mut scratch) = (vec![9; pixels], vec![9; 2 * pixels], vec![9; pixels + 1]);
+    let (pixels, need) = (board.sheet.len(), scratch_need(board.w));
+    let (mut sheet, mut map, mut scratch) = (vec![9; pixels], vec![9; 2 * pixels], vec![9; need + 1]);
     let (mut answer, mut session) = S::fresh().open(&mut sheet, w, h);
     for (x, y) in board.copper() {
         assert_eq!(answer, 0);
@@ -60,8 +61,8 @@ fn built<S: Calls>(board: &Board, engine: u16) -> (Fields, Vec<i16>) {
     assert_eq!((answer, &sheet), (0, &board.sheet));
     (answer, session) = session.build(&sheet, &mut map, &mut scratch, engine);
     assert_eq!(answer, 0);
-    let cleared = scratch[..pixels].iter().all(|&number| number == 0);
-    assert!(cleared == (engine == 1) && scratch[pixels] == 9);
+    let left = if engine == 1 { 0 } else { 9 };
+    assert!(scratch[..need].iter().all(|&number| number == left) && scratch[need] == 9);
     (session.into(), map)
 }
 
@@ -114,13 +115,13 @@ fn c14<S: Calls>() {
     for (q, rest) in [(0, [1; 9]), (1, [0, 0, 0, 0, 1, 0, 0, 0, 0])] {
         let (session, mut map) = built::<S>(&board, 1);
         let mut sheet = board.sheet.clone();
-        assert_eq!(S::from(session).shrink(&mut sheet, &mut map, &mut [9; 9], q).0, 0);
+        assert_eq!(S::from(session).shrink(&mut sheet, &mut map, &mut [9; 12], q).0, 0);
         assert_eq!(sheet, rest, "by {q}");
     }
     let (session, mut map) = built::<S>(&Board::bare(3, 3), 1);
     assert_eq!(S::from(session).place(&map, 0, 0, 4_194_304).0, 0);
     let mut sheet = [0; 9];
-    assert_eq!(S::from(session).expand(&mut sheet, &mut map, &mut [9; 9], 4_194_304).0, 0);
+    assert_eq!(S::from(session).expand(&mut sheet, &mut map, &mut [9; 12], 4_194_304).0, 0);
     assert_eq!(sheet, [0; 9]);
 }
 
@@ -129,6 +130,36 @@ fn c16<S: Calls>() {
     for (engine, [dx, dy]) in [(1, [0, 1]), (2, [1, 0]), (3, [1, 0])] {
         assert_eq!(built::<S>(&boards::c16(), engine).1, [dx, dy, 0, 0, 0, 0, -1, 0]);
     }
+}
+
+/// Scratch of 4 × W numbers is enough and no less, however many rows there are; these end at 0 and the rest is untouched. The quick maps
+/// ask for none.
+fn c22<S: Calls>() {
+    for (w, h) in [(1, 1), (1, 3), (1, 4), (1, 5), (3, 1), (3, 2), (3, 3), (3, 4), (3, 5), (2_048, 1), (2_048, 3), (2_048, 4), (1, 2_048)] {
+        for length in [4 * w - 1, 4 * w, 4 * w + 1, w * h - 1, w * h, w * h + 1, 0] {
+            let short = length < 4 * w;
+            let exact = [Call::Build { engine: 1 }, Call::Expand { q: 1 }, Call::Shrink { q: 1 }].map(|call| (call, short, !short));
+            let quick = [2, 3].map(|engine| (Call::Build { engine }, false, false));
+            for (call, refused, cleared) in exact.into_iter().chain(quick) {
+                let answer = if refused { 12 } else { 0 };
+                let left = |at: usize| if cleared && at < 4 * w { 0 } else { 9 };
+                assert_scratch::<S>(&boards::one_pixel(w, h), call, length, answer, left);
+            }
+        }
+    }
+}
+
+/// Makes a call with scratch of a length. It must have this answer, leave these numbers in scratch, and write nothing if it is refused.
+fn assert_scratch<S: Calls>(board: &Board, call: Call, length: usize, answer: u32, left: impl Fn(usize) -> i16) {
+    let (width, height) = board.sides();
+    let session = Fields { opened: true, width, height, ..Fields::FRESH };
+    let map = vec![9; 2 * board.sheet.len()];
+    let mut slices = Slices { sheet: board.sheet.clone(), map: map.clone(), scratch: vec![9; length], marks: vec![], out: vec![] };
+    let (found, after) = told(call.make(S::from(session), slices.lend()));
+    let about = format!("{call:?} with scratch of {length} on {width} × {height}");
+    assert_eq!(found, answer, "{about}");
+    assert!(slices.scratch.iter().enumerate().all(|(at, &number)| number == left(at)), "scratch: {about}");
+    assert!(answer == 0 || slices.sheet == board.sheet && slices.map == map && after == session, "written: {about}");
 }
 
 fn limits<S: Calls>() {
@@ -152,7 +183,7 @@ fn sides_that_no_sheet_has<S: Calls>() {
         let lent = Slices {
             sheet: vec![1; pixels],
             map: vec![0; 2 * pixels],
-            scratch: vec![7; pixels],
+            scratch: vec![7; scratch_need(width.into())],
             marks: vec![1; pixels],
             out: vec![7; pixels],
         };

@@ -46,7 +46,7 @@ fn lines() {
     let mut random = Random::new(43);
     for turn in 0..200 {
         let n = if turn < 20 { 2_048 } else { random.between(1, 2_048) };
-        for (w, h) in [(n, 1), (1, n), (n, 2), (2, n)] {
+        for (w, h) in (1..=4).flat_map(|few| [(n, few), (few, n)]) {
             let board = if turn % 2 == 0 { scattered(w, h, &mut random) } else { patterned(w, h, &mut random) };
             check(&board, &mut random);
         }

@@ -161,7 +161,7 @@ fn lines() {
     let mut random = Random::new(74);
     for turn in 0..100 {
         let n = if turn < 20 { 2_048 } else { random.between(1, 2_048) };
-        for (w, h) in [(n, 1), (1, n), (n, 2), (2, n), (n, 3), (3, n)] {
+        for (w, h) in (1..=4).flat_map(|few| [(n, few), (few, n)]) {
             let board = any_board(w, h, &mut random);
             let q = any_q(&board, &mut random);
             check(&board, q, &mut random);

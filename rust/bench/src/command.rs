@@ -9,12 +9,13 @@ pub const USE: &str = "\
 use: bench [ROUNDS [CALL]]      times the calls of the library, or one alone, beside plain Rust
      bench --peers [ROUNDS]     times the exact map beside other libraries
      bench --memory [ROUNDS]    times nothing but writing the lent slices once
+     bench --stack              measures how much of the stack each call takes
      bench -h | --help          these lines
 ROUNDS is how often all boards are gone through, from 1; 10 if it is not given.
 CALL is exact, 8SED, 4SED, expand, shrink, skeleton or rebuild.
 ";
 
-/// What is to be timed, in how many rounds, from 1.
+/// What is to be timed, in how many rounds, from 1, or to be measured.
 #[derive(Debug, PartialEq, Eq)]
 pub enum Command {
     /// The calls beside plain Rust, or one alone.
@@ -23,13 +24,21 @@ pub enum Command {
     Peers { rounds: usize },
     /// The writing of the lent slices.
     Memory { rounds: usize },
+    /// The stack that each call takes.
+    Stack,
 }
+
+/// The options, all but those for help.
+const OPTIONS: [&str; 3] = ["--peers", "--memory", "--stack"];
 
 /// What the words ask for.
 pub fn parse(words: &[OsString]) -> Result<Command, Stop> {
     let (options, words): (Vec<&OsStr>, Vec<&OsStr>) = words.iter().map(OsString::as_os_str).partition(|word| cli::is_option(word));
-    if let Some(option) = options.iter().find(|&&option| option != "--peers" && option != "--memory") {
+    if let Some(option) = options.iter().find(|&&option| OPTIONS.iter().all(|known| option != *known)) {
         return Err(cli::unknown(option));
+    }
+    if options == ["--stack"] {
+        return words.first().map_or(Ok(Command::Stack), |more| Err(cli::too_many(more)));
     }
     let rounds = words.first().map_or(Ok(10), |word| cli::number("ROUNDS", 1..=usize::MAX, word))?;
     match (&options[..], words.get(1..).unwrap_or_default()) {
@@ -72,5 +81,7 @@ mod tests {
         assert_eq!(taken("--peers"), Command::Peers { rounds: 10 });
         assert_eq!(taken("--peers 5"), Command::Peers { rounds: 5 });
         assert_eq!(taken("20 --memory"), Command::Memory { rounds: 20 });
+        assert_eq!(taken("--stack"), Command::Stack);
+        assert!(OPTIONS.iter().all(|option| USE.contains(option)));
     }
 }

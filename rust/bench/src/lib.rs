@@ -12,7 +12,7 @@ mod tests {
     use super::*;
     use model::boards::{self, Board};
     use model::random::Random;
-    use model::session::Fields;
+    use model::session::{scratch_need, Fields};
     use soak::calls::{Call, Slices};
     use soak::library::Library;
 
@@ -37,16 +37,22 @@ mod tests {
     }
 
     fn check_exact(board: &Board, random: &mut Random) {
-        let pixels = board.sheet.len();
         let expected = model::exact::outwards(&board.sheet, board.w, board.h).concat();
         for exact in [plain_exact::exact, plain_exact::exact_fused] {
-            let mut map = anything(2 * pixels, random);
-            let mut scratch = anything(pixels + 5, random);
-            let rest = scratch[pixels..].to_vec();
-            exact(&board.sheet, &mut map, &mut scratch, board.w, board.h);
+            let mut map = anything(2 * board.sheet.len(), random);
+            check_scratch(board, random, |scratch| exact(&board.sheet, &mut map, scratch, board.w, board.h));
             assert!(map == expected, "{board:?}");
-            assert!(scratch[..pixels].iter().all(|&number| number == 0) && scratch[pixels..] == rest, "{board:?}");
         }
+    }
+
+    /// What works in scratch leaves as much of it as is needed at 0, and the rest as it was.
+    fn check_scratch(board: &Board, random: &mut Random, work: impl FnOnce(&mut [i16])) {
+        let need = scratch_need(board.w);
+        let mut scratch = anything(need + [0, 5, board.sheet.len()][random.below(3) as usize], random);
+        let mut expected = scratch.clone();
+        expected[..need].fill(0);
+        work(&mut scratch);
+        assert!(scratch == expected, "{board:?}");
     }
 
     /// Expand and shrink on a board and on the board turned round.
@@ -58,10 +64,9 @@ mod tests {
             for (resize, expected) in [plain_resize::expand, plain_resize::shrink].into_iter().zip(expected) {
                 let mut sheet = sheet.clone();
                 let mut map = anything(2 * w * h, random);
-                let mut scratch = anything(w * h, random);
-                resize(&mut sheet, &mut map, &mut scratch, w, h, q);
+                check_scratch(board, random, |scratch| resize(&mut sheet, &mut map, scratch, w, h, q));
                 assert!(sheet == expected, "q {q}: {board:?}");
-                assert!(map.iter().all(|&number| number == -32_768) && scratch.iter().all(|&number| number == 0), "q {q}: {board:?}");
+                assert!(map.iter().all(|&number| number == -32_768), "q {q}: {board:?}");
             }
         }
     }
@@ -93,7 +98,7 @@ mod tests {
         for turn in 0..20_000 {
             let (w, h) = match turn % 16 {
                 0 => (1, random.between(1, 300)),
-                1 => (random.between(1, 300), 1),
+                1 => (random.between(1, 300), random.between(1, 4)),
                 _ => (random.between(1, 12), random.between(1, 12)),
             };
             let board = boards::any(w, h, &mut random);
@@ -125,11 +130,14 @@ mod tests {
         on_boards(24, check_skeleton);
     }
 
-    /// Slices for a board, now and then of a wrong length.
+    /// Slices for a board, now and then of a wrong length. Scratch is about as long as is needed, or about a number a pixel.
     fn any_slices(board: &Board, random: &mut Random) -> Slices {
         let pixels = board.sheet.len();
-        let [sheet, numbers, scratch, marks, out] =
-            [(); 5].map(|()| if random.below(9) == 0 { pixels + 1 - 2 * random.below(2) as usize } else { pixels });
+        let scratch = [scratch_need(board.w), pixels][random.below(2) as usize];
+        let [sheet, numbers, scratch, marks, out] = [pixels, pixels, scratch, pixels, pixels].map(|right| {
+            let wrong = right + 1 - 2 * random.below(2) as usize;
+            [right, wrong][usize::from(random.below(9) == 0)]
+        });
         let mut slices = Slices {
             sheet: board.sheet.clone(),
             map: anything(2 * numbers, random),

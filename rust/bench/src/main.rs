@@ -5,9 +5,11 @@
 
 mod command;
 mod peers;
+mod stack;
 
 use abi::session::{Reply, Session};
 use bench::plain_calls::{self, FUSED, PLAIN};
+use bench::plain_exact::scratch_need;
 use cli::Stop;
 use command::Command;
 use model::boards::{self, Board};
@@ -30,10 +32,10 @@ struct Slices<'a> {
 type Call = fn(&mut Slices) -> Reply;
 
 /// What is timed: a call of the library, the same in plain Rust, and a tuned variant of that if there is one. What they need besides the
-/// sheet is made ready before, off the clock. `lent` is how many bytes a pixel the call is lent.
+/// sheet is made ready before, off the clock. `lent` is how many bytes the call is lent, a pixel and a column.
 struct What {
     name: &'static str,
-    lent: usize,
+    lent: [usize; 2],
     ready: fn(&mut Slices),
     library: Call,
     plain: Call,
@@ -57,7 +59,7 @@ fn skeleton_of(on: &mut Slices) {
 const WHATS: [What; 7] = [
     What {
         name: "exact",
-        lent: 7,
+        lent: [5, 8],
         ready: |_| {},
         library: |on| on.session.build(on.sheet, on.map, on.scratch, 1),
         plain: |on| plain_calls::build(on.session, on.sheet, on.map, on.scratch, 1, &PLAIN),
@@ -65,7 +67,7 @@ const WHATS: [What; 7] = [
     },
     What {
         name: "8SED",
-        lent: 5,
+        lent: [5, 0],
         ready: |_| {},
         library: |on| on.session.build(on.sheet, on.map, on.scratch, 2),
         plain: |on| plain_calls::build(on.session, on.sheet, on.map, on.scratch, 2, &PLAIN),
@@ -73,7 +75,7 @@ const WHATS: [What; 7] = [
     },
     What {
         name: "4SED",
-        lent: 5,
+        lent: [5, 0],
         ready: |_| {},
         library: |on| on.session.build(on.sheet, on.map, on.scratch, 3),
         plain: |on| plain_calls::build(on.session, on.sheet, on.map, on.scratch, 3, &PLAIN),
@@ -81,7 +83,7 @@ const WHATS: [What; 7] = [
     },
     What {
         name: "expand",
-        lent: 7,
+        lent: [5, 8],
         ready: |_| {},
         library: |on| on.session.expand(on.sheet, on.map, on.scratch, Q),
         plain: |on| plain_calls::expand(on.session, on.sheet, on.map, on.scratch, Q),
@@ -89,7 +91,7 @@ const WHATS: [What; 7] = [
     },
     What {
         name: "shrink",
-        lent: 7,
+        lent: [5, 8],
         ready: |_| {},
         library: |on| on.session.shrink(on.sheet, on.map, on.scratch, Q),
         plain: |on| plain_calls::shrink(on.session, on.sheet, on.map, on.scratch, Q),
@@ -97,7 +99,7 @@ const WHATS: [What; 7] = [
     },
     What {
         name: "skeleton",
-        lent: 5,
+        lent: [5, 0],
         ready: map_of,
         library: |on| on.session.skeleton(on.map, on.out),
         plain: |on| plain_calls::skeleton(on.session, on.map, on.out),
@@ -105,7 +107,7 @@ const WHATS: [What; 7] = [
     },
     What {
         name: "rebuild",
-        lent: 6,
+        lent: [6, 0],
         ready: skeleton_of,
         library: |on| on.session.rebuild(on.map, on.marks, on.out),
         plain: |on| plain_calls::rebuild(on.session, on.map, on.marks, on.out),
@@ -113,7 +115,7 @@ const WHATS: [What; 7] = [
     },
 ];
 
-/// The memory of one contender, enough for the largest board.
+/// The memory of one contender, enough for boards up to some side.
 struct Memory {
     sheet: Vec<u8>,
     map: Vec<i16>,
@@ -123,12 +125,13 @@ struct Memory {
 }
 
 impl Memory {
-    fn new(pixels: usize) -> Self {
-        let bytes = vec![0; pixels];
-        Memory { sheet: bytes.clone(), map: vec![0; 2 * pixels], scratch: vec![0; pixels], marks: bytes.clone(), out: bytes }
+    fn new(side: usize) -> Self {
+        let bytes = vec![0; side * side];
+        let (map, scratch) = (vec![0; 2 * side * side], vec![0; scratch_need(side)]);
+        Memory { sheet: bytes.clone(), map, scratch, marks: bytes.clone(), out: bytes }
     }
 
-    /// The slices for a board, with its sheet. The others are as they were.
+    /// The slices for a board, with its sheet, and no more scratch than is needed. The others are as they were.
     fn lend(&mut self, board: &Board) -> Slices<'_> {
         let &Board { w, h, ref sheet } = board;
         self.sheet[..w * h].copy_from_slice(sheet);
@@ -137,7 +140,7 @@ impl Memory {
             session: Session { opened: true, width, height, ..Session::fresh() },
             sheet: &mut self.sheet[..w * h],
             map: &mut self.map[..2 * w * h],
-            scratch: &mut self.scratch[..w * h],
+            scratch: &mut self.scratch[..scratch_need(w)],
             marks: &mut self.marks[..w * h],
             out: &mut self.out[..w * h],
         }
@@ -159,7 +162,7 @@ fn deep(frames: usize, call: Call, on: &mut Slices) -> Reply {
 /// A line of the table: a call on a board, and the shortest time of each contender.
 struct Line {
     what: &'static str,
-    lent: usize,
+    lent: [usize; 2],
     name: &'static str,
     board: Board,
     ready: fn(&mut Slices),
@@ -192,6 +195,12 @@ impl Line {
         }
     }
 
+    /// How many bytes the call is lent.
+    fn bytes(&self) -> usize {
+        let [pixel, column] = self.lent;
+        pixel * self.board.sheet.len() + column * self.board.w
+    }
+
     /// The shortest time of a contender in nanoseconds a pixel.
     fn nanoseconds(&self, which: usize) -> Option<f64> {
         Some(self.best.get(which)?.as_nanos() as f64 / self.board.sheet.len() as f64)
@@ -201,8 +210,9 @@ impl Line {
 /// The times of what any expand and shrink must do at least, since both leave the sheet, the map and scratch written: to write these slices
 /// once.
 fn write_once(rounds: usize) -> String {
-    let mut text = format!("writing sheet, map and scratch once, 7 bytes a pixel: ns a pixel, the shortest of {rounds} runs\n\n");
-    let mut memory = Memory::new(2_048 * 2_048);
+    let mut text = "writing sheet and map, 5 bytes a pixel, and 4 × W numbers of scratch once: ".to_string();
+    text += &format!("ns a pixel, the shortest of {rounds} runs\n\n");
+    let mut memory = Memory::new(2_048);
     let mut first = None;
     for side in SIDES {
         let board = boards::full(side, side);
@@ -235,7 +245,7 @@ fn timed(rounds: usize, alone: Option<&str>) -> Vec<Line> {
             lines.extend(SIDES.map(|side| Line::new(what, name, side)));
         }
     }
-    let mut memories = [(); 3].map(|()| Memory::new(2_048 * 2_048));
+    let mut memories = [(); 3].map(|()| Memory::new(2_048));
     for round in 0..rounds {
         for line in &mut lines {
             // the smaller boards several times, since they take less time
@@ -260,6 +270,7 @@ fn time(command: Command) -> Result<String, Stop> {
             peers::table(rounds, boards).map_err(|error| Stop::Failed(format!("the other libraries cannot be timed: {error}")))
         }
         Command::Memory { rounds } => Ok(write_once(rounds)),
+        Command::Stack => stack::table().map_err(|error| Stop::Failed(format!("the stack cannot be measured: {error}"))),
     }
 }
 
@@ -281,7 +292,7 @@ fn table(rounds: usize, lines: &[Line]) -> String {
             for number in [plain, over(plain), fused, over(fused)] {
                 text += &format!("  {:>5}", cell(number));
             }
-            text += &format!("  {:>4.1} MB", (line.lent * line.board.sheet.len()) as f64 / 1e6);
+            text += &format!("  {:>4.1} MB", line.bytes() as f64 / 1e6);
             if line.board.w == 2_048 {
                 text += &format!("  {}", cell(over(sides[0].nanoseconds(0))));
             }

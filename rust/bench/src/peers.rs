@@ -3,6 +3,7 @@
 
 use crate::cell;
 use abi::session::Session;
+use bench::plain_exact::scratch_need;
 use model::boards::Board;
 use std::fs;
 use std::io::{self, BufRead, BufReader, Write};
@@ -55,7 +56,7 @@ fn library(rounds: usize, board: &Board) -> f64 {
     let &Board { w, h, ref sheet } = board;
     let (width, height) = board.sides();
     let session = Session { opened: true, width, height, ..Session::fresh() };
-    let (mut map, mut scratch) = (vec![0; 2 * w * h], vec![0; w * h]);
+    let (mut map, mut scratch) = (vec![0; 2 * w * h], vec![0; scratch_need(w)]);
     let mut best = Duration::MAX;
     for _ in 0..rounds {
         let start = Instant::now();

@@ -53,7 +53,7 @@ pub fn build(s: Session, sheet: &[u8], map: &mut [i16], scratch: &mut [i16], eng
         return refused(s, 30);
     }
     let (w, h) = sides(&s);
-    let short = engine == 1 && scratch.len() < w * h;
+    let short = engine == 1 && scratch.len() < plain_exact::scratch_need(w);
     if sheet.len() != w * h || map.len() != 2 * w * h || short {
         return refused(s, 12);
     }
@@ -80,7 +80,7 @@ fn resize(s: Session, sheet: &mut [u8], map: &mut [i16], scratch: &mut [i16], q:
         return refused(s, 30);
     }
     let (w, h) = sides(&s);
-    if sheet.len() != w * h || map.len() != 2 * w * h || scratch.len() < w * h {
+    if sheet.len() != w * h || map.len() != 2 * w * h || scratch.len() < plain_exact::scratch_need(w) {
         return refused(s, 12);
     }
     if q > 4_194_304 {

@@ -1,6 +1,6 @@
 //! The exact map in plain safe Rust by the library's algorithm: two passes over the rows find the nearest copper of each column, then each
 //! row is worked out by itself, in parts between long runs of copper, from the lower envelope of its columns' parabolas. The ways stand in the
-//! first half of the map.
+//! first half of the map, those of the row at hand in scratch.
 
 use std::ops::Range;
 
@@ -11,7 +11,12 @@ pub(crate) const UNLABELLED: Pixel = [-32_768; 2];
 /// The longest side.
 pub(crate) const SIDE: usize = 2_048;
 
-/// Writes the exact map of a sheet. The first `w` × `h` numbers of scratch are 0 afterwards.
+/// How many scratch numbers the exact map of a sheet of `w` columns needs.
+pub fn scratch_need(w: usize) -> usize {
+    4 * w
+}
+
+/// Writes the exact map of a sheet. The scratch that it needs is 0 afterwards.
 pub fn exact(sheet: &[u8], map: &mut [i16], scratch: &mut [i16], w: usize, h: usize) {
     let mut costs = [0; SIDE];
     let mut stack = [Entry::default(); SIDE];
@@ -36,20 +41,20 @@ pub fn exact_fused(sheet: &[u8], map: &mut [i16], scratch: &mut [i16], w: usize,
 
 /// The passes over the columns, and then `solve` on each row and its ways.
 fn work(sheet: &[u8], map: &mut [i16], scratch: &mut [i16], w: usize, h: usize, mut solve: impl FnMut(&mut [Pixel], &[i16])) {
-    assert!(w <= SIDE && h <= SIDE && sheet.len() == w * h && map.len() == 2 * w * h && scratch.len() >= w * h);
+    assert!(w <= SIDE && h <= SIDE && sheet.len() == w * h && map.len() == 2 * w * h && scratch.len() >= scratch_need(w));
     if w == 0 {
         return;
     }
     upwards(sheet, &mut map[..w * h], w);
     shorter(&mut map[..w * h], w);
-    let mut ways = [0; SIDE];
+    let ways = &mut scratch[..w];
     // from the last row, for a row's vectors lie behind the ways of the rows above it
     for y in (0..h).rev() {
-        ways[..w].copy_from_slice(&map[y * w..][..w]);
+        ways.copy_from_slice(&map[y * w..][..w]);
         let (row, _) = map[2 * y * w..2 * (y + 1) * w].as_chunks_mut();
-        solve(row, &ways[..w]);
+        solve(row, ways);
     }
-    scratch[..w * h].fill(0);
+    scratch[..scratch_need(w)].fill(0);
 }
 
 /// Writes a row's vectors; `envelope` stacks the best columns of a part of it. The copper pixels at the ends of a run split the row: neither

@@ -28,7 +28,19 @@ fn refused_words() {
     for words in [["1", "skeleton", "exact"], ["--peers", "5", "exact"]] {
         assert_stops(&mut bench(&words), 2, "`exact` is one word too many\nuse: ");
     }
-    assert_stops(&mut bench(&["--peers", "--memory"]), 2, "`--memory` is one option too many\nuse: ");
+    assert_stops(&mut bench(&["--stack", "5"]), 2, "`5` is one word too many\nuse: ");
+    for words in [["--peers", "--memory"], ["--stack", "--memory"]] {
+        assert_stops(&mut bench(&words), 2, "`--memory` is one option too many\nuse: ");
+    }
+}
+
+/// Each call takes some of the stack, and less than 100,000 bytes.
+#[test]
+fn stack() {
+    let text = String::from_utf8(written(&mut bench(&["--stack"]))).unwrap();
+    let calls: Vec<(&str, &str)> = text.lines().skip(2).map(|line| line.rsplit_once(' ').expect("two columns")).collect();
+    assert_eq!(calls.len(), 14, "{text}");
+    assert!(calls.iter().all(|(_, bytes)| bytes.parse().is_ok_and(|bytes: u32| (1..100_000).contains(&bytes))), "{text}");
 }
 
 /// On a full disk nothing is lost in silence.

@@ -13,6 +13,9 @@ use job::Record;
 /// The most pixels of a sheet, as in `mill`.
 const PIXELS: usize = 8_192;
 
+/// How many scratch numbers there are, as in `mill`: enough for every sheet.
+const SCRATCH: usize = 8_192;
+
 /// Steps to the right and down, clockwise from east.
 const STEPS: [(i32, i32); 8] = [(1, 0), (1, 1), (0, 1), (-1, 1), (-1, 0), (-1, -1), (0, -1), (1, -1)];
 
@@ -64,7 +67,7 @@ struct Mill {
 
 /// The picture of a job's records; none if they touch no sheet and nothing is refused, so that there is nothing to show.
 pub fn picture(records: &[Record]) -> Option<String> {
-    let (sheet, map, scratch) = (vec![0; PIXELS], vec![0; 2 * PIXELS], vec![0; PIXELS]);
+    let (sheet, map, scratch) = (vec![0; PIXELS], vec![0; 2 * PIXELS], vec![0; SCRATCH]);
     let (boards, early) = (Vec::new(), Vec::new());
     let mut mill = Mill { session: Session::fresh(), sheet, map, scratch, boards, changed: false, early };
     for (at, record) in records.iter().enumerate() {
@@ -102,7 +105,7 @@ impl Mill {
     fn call(&mut self, record: &Record) -> Reply {
         let (session, pixels) = (self.session, self.pixels());
         let short = |at: usize| record.numbers()[at] as u16;
-        let (sheet, map, scratch) = (&mut self.sheet[..pixels], &mut self.map[..2 * pixels], &mut self.scratch[..pixels]);
+        let (sheet, map, scratch) = (&mut self.sheet[..pixels], &mut self.map[..2 * pixels], &mut self.scratch[..]);
         match record.kind() {
             1 => {
                 let opened = usize::from(short(0)) * usize::from(short(1));

@@ -51,6 +51,17 @@ fn refused_early() {
     assert!(picture.contains(">2: build 1 gives 30<") && picture.contains(">3: open 91 91 gives 12<"));
 }
 
+/// The widest sheets have scratch enough, however few rows they have.
+#[test]
+fn few_rows() {
+    for h in 1..=4 {
+        let records = job::parse(&format!("open 2048 {h}\npaint 9 0 5 1\nbuild 1\nexpand 1\nshrink 1\nbuild 1\n")).unwrap();
+        let picture = draw::picture(&records).unwrap();
+        assert_eq!(picture.matches(&format!("build 1 gives 0, 2048 × {h}<")).count(), 2);
+        assert!(!picture.contains("gives 12"));
+    }
+}
+
 /// There is no picture of nothing.
 #[test]
 fn nothing() {

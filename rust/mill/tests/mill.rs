@@ -30,6 +30,20 @@ fn as_the_model() {
     }
 }
 
+/// The sheets on which `mill` comes to the ends of its buffers: with all its pixels, the widest, of few rows and of few columns.
+#[test]
+fn largest_sheets() {
+    let wide = (1..=5).flat_map(|few| [(2_048, few), (few, 2_048), (2_047, few)]);
+    for (w, h) in wide.chain([(90, 91), (91, 90), (64, 128), (1, 1)]) {
+        let calls = "build 1\nplace 0 0 1\nrun east 1\nexpand 2\nbuild 1\nshrink 1\nbuild 2\nbuild 1\nplace 0 0 4\n";
+        let text = format!("open {w} {h}\npaint {} {} 1 1\n{calls}", w / 2, h / 2);
+        let job = job::pack(&job::parse(&text).unwrap());
+        let found = printed(&job);
+        assert_eq!(found, model::job::printed(&job), "{text}");
+        assert_eq!(found.contains("\n3 0\n"), w * h <= 8_192, "{text}");
+    }
+}
+
 #[test]
 fn nothing() {
     assert_eq!(printed(&[]), "");

@@ -5,6 +5,8 @@ use crate::session::Fields;
 
 /// The most pixels of a sheet of `mill`.
 const PIXELS: usize = 8_192;
+/// How many scratch numbers `mill` has, enough for every sheet.
+const SCRATCH: usize = 8_192;
 
 /// The records of a job, each with its kind and its bytes after that, or none if it does not split.
 fn split(job: &[u8]) -> Option<Vec<(u16, &[u8])>> {
@@ -49,7 +51,7 @@ fn short(bytes: &[u8]) -> u16 {
 /// What `mill` prints.
 pub fn printed(job: &[u8]) -> String {
     let Some(records) = split(job) else { return "0 19\n".into() };
-    let mut mill = Mill { session: Fields::FRESH, sheet: vec![0; PIXELS], map: vec![0; 2 * PIXELS], scratch: vec![0; PIXELS] };
+    let mut mill = Mill { session: Fields::FRESH, sheet: vec![0; PIXELS], map: vec![0; 2 * PIXELS], scratch: vec![0; SCRATCH] };
     let answers = records.iter().map(|&(kind, fields)| mill.answer(kind, fields));
     answers.enumerate().map(|(at, answer)| format!("{} {answer}\n", at + 1)).collect()
 }
@@ -72,7 +74,7 @@ impl Mill {
             1 => pixels(at(0), at(1)),
             _ => pixels(open.width, open.height),
         };
-        let (sheet, map, scratch) = (&mut self.sheet[..lent], &mut self.map[..2 * lent], &mut self.scratch[..lent]);
+        let (sheet, map, scratch) = (&mut self.sheet[..lent], &mut self.map[..2 * lent], &mut self.scratch[..]);
         let (answer, session) = match kind {
             1 => open.open(sheet, at(0), at(1)),
             2 => open.paint(sheet, at(0), at(1), at(2), at(3)),
@@ -123,5 +125,10 @@ mod tests {
         assert_eq!(printed(&open(2_048, 4)), "1 0\n");
         assert_eq!(printed(&open(2_048, 5)), "1 12\n");
         assert_eq!(printed(&open(2_049, 1)), "1 11\n");
+        // scratch is enough on the widest, however few rows they have
+        let [build, expand, shrink] = [&[6, 0, 4, 0, 1, 0][..], &[8, 0, 8, 0, 1, 0, 0, 0], &[8, 0, 9, 0, 1, 0, 0, 0]];
+        for h in 1..=4 {
+            assert_eq!(printed(&[&open(2_048, h), build, expand, shrink].concat()), "1 0\n2 0\n3 0\n4 0\n");
+        }
     }
 }

@@ -16,6 +16,11 @@ const MAX_COUNT: u16 = 2_047;
 /// The eight directions, clockwise from east, as steps to the right and down.
 const DIRECTIONS: [(i64, i64); 8] = [(1, 0), (1, 1), (0, 1), (-1, 1), (-1, 0), (-1, -1), (0, -1), (1, -1)];
 
+/// How many scratch numbers exact, expand and shrink need on a sheet of `w` columns, however many rows it has.
+pub fn scratch_need(w: usize) -> usize {
+    4 * w
+}
+
 /// A session as it is recorded, with any numbers.
 #[derive(Clone, Copy, Debug, PartialEq, Eq)]
 pub struct Fields {
@@ -218,15 +223,15 @@ impl Fields {
         resized: fn(&[u8], usize, usize, u32) -> Vec<u8>,
     ) -> (u32, Fields) {
         let Some(open) = self.read() else { return (30, self) };
-        let pixels = open.pixels();
-        let answer = answer(&[(12, sheet.len() != pixels || map.len() != 2 * pixels || scratch.len() < pixels), (15, q > MAX_Q)]);
+        let (pixels, need) = (open.pixels(), scratch_need(open.w.into()));
+        let answer = answer(&[(12, sheet.len() != pixels || map.len() != 2 * pixels || scratch.len() < need), (15, q > MAX_Q)]);
         if answer != 0 {
             return (answer, self);
         }
         let after = resized(sheet, open.w.into(), open.h.into(), q);
         sheet.copy_from_slice(&after);
         map.as_chunks_mut::<2>().0.fill(UNLABELLED);
-        scratch[..pixels].fill(0);
+        scratch[..need].fill(0);
         (0, Fields::of(Some(open.stale())))
     }
 
@@ -279,14 +284,14 @@ impl Calls for Fields {
 
     fn build(self, sheet: &[u8], map: &mut [i16], scratch: &mut [i16], engine: u16) -> (u32, Fields) {
         let Some(open) = self.read() else { return (30, self) };
-        let pixels = open.pixels();
+        let (pixels, need) = (open.pixels(), scratch_need(open.w.into()));
         let engine = Engine::numbered(engine);
-        let short = engine == Some(Engine::Exact) && scratch.len() < pixels;
+        let short = engine == Some(Engine::Exact) && scratch.len() < need;
         let answer = answer(&[(12, sheet.len() != pixels || map.len() != 2 * pixels || short), (14, engine.is_none())]);
         let Some(engine) = engine.filter(|_| answer == 0) else { return (answer, self) };
         map.copy_from_slice(engine.map(sheet, open.w.into(), open.h.into()).as_flattened());
         if engine == Engine::Exact {
-            scratch[..pixels].fill(0);
+            scratch[..need].fill(0);
         }
         (0, Fields::of(Some(Open { map: Some(Current { engine, cutter: None }), ..open })))
     }

@@ -129,6 +129,11 @@ impl Call {
         }
     }
 
+    /// Whether it is lent scratch.
+    pub fn takes_scratch(self) -> bool {
+        matches!(self, Call::Build { .. } | Call::Expand { .. } | Call::Shrink { .. })
+    }
+
     /// Makes the call of a session with these slices.
     pub fn make<S: Calls>(self, session: S, slices: Lending) -> (u32, S) {
         let Lending { sheet, map, scratch, marks, out } = slices;

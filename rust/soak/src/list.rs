@@ -4,7 +4,7 @@ use crate::board::Board;
 use crate::calls::{Call, Slices};
 use model::calls::Calls;
 use model::random::Random;
-use model::session::Fields;
+use model::session::{scratch_need, Fields};
 use std::collections::BTreeMap;
 use std::fmt;
 
@@ -90,11 +90,10 @@ impl<S: Calls> List<S> {
             }
             _ => (self.sheet.clone(), self.map.clone()),
         };
-        let pixels = sheet.len();
         let more = [0, 0, 1, random.between(0, 30)][random.below(4) as usize];
         let (numbers, bytes) = match call {
-            Call::Build { .. } | Call::Expand { .. } | Call::Shrink { .. } => (pixels + more, 0),
-            Call::Skeleton | Call::Rebuild => (0, pixels),
+            _ if call.takes_scratch() => (self.scratch_need() + more, 0),
+            Call::Skeleton | Call::Rebuild => (0, sheet.len()),
             _ => (0, 0),
         };
         let sparse = 1 + random.below(9);
@@ -105,6 +104,11 @@ impl<S: Calls> List<S> {
             sheet,
             map,
         }
+    }
+
+    /// How many scratch numbers exact, expand and shrink need. A session wider than any sheet is taken as the widest.
+    pub fn scratch_need(&self) -> usize {
+        scratch_need(self.session().width.min(2_048).into())
     }
 
     /// Makes a call with slices that fit, and returns its answer.

@@ -200,9 +200,16 @@ fn resize_q(random: &mut Random) -> u32 {
     seldom(6, &[25, 400, 4_194_304, 4_194_305, 4_294_967_295], usual, random) as u32
 }
 
-/// Slices for a call. To open a sheet some have a wrong length now and then, and always if the sheet would be large.
+/// Slices for a call. Scratch has a length around what is needed or around a number a pixel now and then, so that it may be too short. To
+/// open a sheet some have a wrong length now and then, and always if the sheet would be large.
 fn any_slices<S: Calls>(list: &List<S>, call: Call, random: &mut Random) -> Slices {
-    let Call::Open { w, h } = call else { return list.slices(call, random) };
+    let Call::Open { w, h } = call else {
+        let mut slices = list.slices(call, random);
+        if call.takes_scratch() && random.below(3) == 0 {
+            slices.scratch.resize(near_length(list, random), 7);
+        }
+        return slices;
+    };
     if u64::from(w) * u64::from(h) > 3_000 || random.below(12) == 0 {
         let small = Call::Open { w: random.between(0, 9) as u16, h: random.between(0, 9) as u16 };
         let mut slices = list.slices(small, random);
@@ -212,6 +219,12 @@ fn any_slices<S: Calls>(list: &List<S>, call: Call, random: &mut Random) -> Slic
         return slices;
     }
     list.slices(call, random)
+}
+
+/// A length of scratch around what is needed, or around a number a pixel.
+fn near_length<S: Calls>(list: &List<S>, random: &mut Random) -> usize {
+    let length = [list.scratch_need(), list.sheet.len()][random.below(2) as usize];
+    (length + 1).saturating_sub(random.between(0, 2))
 }
 
 /// Lends a slice of a wrong length, or several.
@@ -286,5 +299,45 @@ fn tamper_sheet(sheet: &mut [u8], random: &mut Random) {
         } else if !copper_alone && random.below(6) == 0 {
             *byte = random.next() as u8;
         }
+    }
+}
+
+#[cfg(test)]
+mod tests {
+    use super::*;
+    use std::cmp::Ordering;
+    use std::collections::BTreeMap;
+
+    /// How many calls had scratch around 4 × W or W × H, by how many rows the sheet has beside four, by which of both, and by whether the
+    /// length is one less, the same or one more.
+    type Lengths = BTreeMap<(Ordering, &'static str, Ordering), u32>;
+
+    fn count(found: &mut Lengths, session: &Fields, scratch: usize) {
+        let (w, h) = (usize::from(session.width), usize::from(session.height));
+        for (what, length) in [("4 × W", 4 * w), ("W × H", w * h)] {
+            if scratch.abs_diff(length) <= 1 {
+                *found.entry((h.cmp(&4), what, scratch.cmp(&length))).or_default() += 1;
+            }
+        }
+    }
+
+    /// Each of these comes often.
+    #[test]
+    fn scratch_lengths() {
+        let mut random = Random::new(1);
+        let mut found = Lengths::new();
+        for seed in 0..4_000 {
+            let mut list = List::<Fields>::new(Check::Model, seed, &mut random);
+            for _ in 0..30 {
+                let call = any_call(&list, &mut random);
+                let slices = any_slices(&list, call, &mut random);
+                if call.takes_scratch() && list.session().opened {
+                    count(&mut found, &list.session(), slices.scratch.len());
+                }
+                list.lend(call, slices, &mut random);
+            }
+        }
+        assert_eq!(found.len(), 3 * 2 * 3, "{found:?}");
+        assert!(found.values().all(|&calls| calls > 100), "{found:?}");
     }
 }

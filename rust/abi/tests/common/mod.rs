@@ -6,6 +6,7 @@
 use abi::session::{Reply, Session};
 use model::boards::Board;
 use model::random::Random;
+use model::session::scratch_need;
 pub use soak::lent::Lent;
 
 /// How many numbers around a lent slice must stay as they are.
@@ -33,16 +34,16 @@ pub fn old(random: &mut Random) -> i16 {
     }
 }
 
-/// A scratch slice that holds anything. It is longer than it need be, more often than not.
+/// A scratch slice that holds anything. It is longer than it need be, more often than not, and now and then has a number a pixel.
 pub fn any_scratch(board: &Board, random: &mut Random) -> Lent<i16> {
-    let pixels = board.sheet.len();
-    let more = [0, 1, board.w, random.between(0, 3 * board.w + 9)][random.below(4) as usize];
-    Lent::new(pixels + more, margin(board), || old(random))
+    let need = scratch_need(board.w);
+    let length = [need, need + 1, need + random.between(0, 3 * board.w + 9), need.max(board.sheet.len())][random.below(4) as usize];
+    Lent::new(length, margin(board), || old(random))
 }
 
-/// Asserts that the first W × H numbers of scratch are 0 and the rest is as it was.
+/// Asserts that the first 4 × W numbers of scratch are 0 and the rest is as it was.
 pub fn assert_cleared(scratch: &Lent<i16>, board: &Board) {
-    let cleared = scratch.written(board.sheet.len(), "first W × H of scratch", board);
+    let cleared = scratch.written(scratch_need(board.w), "first 4 × W of scratch", board);
     assert!(cleared.iter().all(|&number| number == 0), "scratch is not 0: {board:?}");
 }
 

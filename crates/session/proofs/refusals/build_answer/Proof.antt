@@ -6,24 +6,17 @@ use lib.Dec.{eqb}
 use borrow.Author.Needs.{needs}
 use Rattle.raster.specs.Refusal.{firstOf}
 use Rattle.session.specs.State.{active}
-use Rattle.session.specs.Refusals.{notSheet, notMap, shortScratch, buildTable}
+use Rattle.session.specs.Refusals.{notSheet, notMap, shortScratch, buildTable, buildTableBy}
 use Rattle.session.proofs.refusals.build_answer.Statement.{statement}
 use Rattle.session.proofs.refusals.build_answer.Tie as tie
 
 returns : tie.Need-returns
-unfolding buildTable firstOf
+unfolding buildTable buildTableBy firstOf
 returns c = simp (rw (c .before .is-active .ensures) at (c .if1 .taken))
 
 -- past the first test
 fine : (c : tie.Else1) → not (active (c .before .before .before .args .s)) ≡ false
 fine c = rw (c .before .is-active .ensures) at (c .if1 .left)
-
-returns-2 : tie.Need-returns-2
-unfolding buildTable firstOf
-returns-2 c =
-    let m = c .before .before in
-    let p = m .before in
-    simp (fine (p .before .before), rw (p .before .scratch-need .ensures, p .pixels-of .ensures, m .is-map .ensures) at (c .if2 .taken))
 
 -- past the second
 sized : (c : tie.Else2) → let a = c .before .before .before .before .before .before .before .before .args in
@@ -31,16 +24,23 @@ sized : (c : tie.Else2) → let a = c .before .before .before .before .before .b
 sized c =
     let m = c .before .before in
     let p = m .before in
-    rw (p .before .scratch-need .ensures, p .pixels-of .ensures, m .is-map .ensures) at (c .if2 .left)
+    rw (← m .is-map .ensures, ← p .pixels-of .ensures, ← p .before .scratch-need .ensures) (c .if2 .left)
+
+returns-2 : tie.Need-returns-2
+unfolding buildTable buildTableBy firstOf
+returns-2 c =
+    let m = c .before .before in
+    let p = m .before in
+    simp (fine (p .before .before), rw (p .before .scratch-need .ensures, p .pixels-of .ensures, m .is-map .ensures) at (c .if2 .taken))
 
 returns-3 : tie.Need-returns-3
-unfolding buildTable firstOf
+unfolding buildTable buildTableBy firstOf
 returns-3 c =
     let e = c .before in
     simp (fine (e .before .before .before .before .before), sized e, rw (e .before .is-engine .ensures) at (c .if3 .taken))
 
 returns-4 : tie.Need-returns-4
-unfolding buildTable firstOf
+unfolding buildTable buildTableBy firstOf
 returns-4 c =
     let e = c .before in
     simp (fine (e .before .before .before .before .before), sized e, rw (e .before .is-engine .ensures) at (c .if3 .left))

@@ -6,24 +6,17 @@ use borrow.Author.Needs.{needs}
 use borrow.Author.Tests.{lt-ltb, le-ltb}
 use Rattle.raster.specs.Refusal.{firstOf}
 use Rattle.session.specs.State.{active}
-use Rattle.session.specs.Refusals.{notSheet, notMap, shortScratch, resizeTable}
+use Rattle.session.specs.Refusals.{notSheet, notMap, shortScratch, resizeTable, resizeTableBy}
 use Rattle.session.proofs.refusals.resize_answer.Statement.{statement}
 use Rattle.session.proofs.refusals.resize_answer.Tie as tie
 
 returns : tie.Need-returns
-unfolding resizeTable firstOf
+unfolding resizeTable resizeTableBy firstOf
 returns c = simp (rw (c .before .is-active .ensures) at (c .if1 .taken))
 
 -- past the first test
 fine : (c : tie.Else1) → not (active (c .before .before .before .args .s)) ≡ false
 fine c = rw (c .before .is-active .ensures) at (c .if1 .left)
-
-returns-2 : tie.Need-returns-2
-unfolding resizeTable firstOf
-returns-2 c =
-    let m = c .before in
-    let p = m .before in
-    simp (fine (p .before .before), rw (p .before .scratch-need .ensures, p .pixels-of .ensures, m .is-map .ensures) at (c .if2 .taken))
 
 -- past the second
 sized : (c : tie.Else2) → let a = c .before .before .before .before .before .before .before .args in
@@ -31,14 +24,21 @@ sized : (c : tie.Else2) → let a = c .before .before .before .before .before .b
 sized c =
     let m = c .before in
     let p = m .before in
-    rw (p .before .scratch-need .ensures, p .pixels-of .ensures, m .is-map .ensures) at (c .if2 .left)
+    rw (← m .is-map .ensures, ← p .pixels-of .ensures, ← p .before .scratch-need .ensures) (c .if2 .left)
+
+returns-2 : tie.Need-returns-2
+unfolding resizeTable resizeTableBy firstOf
+returns-2 c =
+    let m = c .before in
+    let p = m .before in
+    simp (fine (p .before .before), rw (p .before .scratch-need .ensures, p .pixels-of .ensures, m .is-map .ensures) at (c .if2 .taken))
 
 returns-3 : tie.Need-returns-3
-unfolding resizeTable firstOf
+unfolding resizeTable resizeTableBy firstOf
 returns-3 c = let e = c .before in simp (fine (e .before .before .before .before), sized e, lt-ltb _ _ (c .if3 .taken))
 
 returns-4 : tie.Need-returns-4
-unfolding resizeTable firstOf
+unfolding resizeTable resizeTableBy firstOf
 returns-4 c = let e = c .before in simp (fine (e .before .before .before .before), sized e, le-ltb _ _ (c .if3 .left))
 
 pub resize-answer-spec : {M : Type 1} → statement M

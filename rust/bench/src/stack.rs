@@ -1,0 +1,149 @@
+//! How much of the stack each call of the library takes on the largest sheets.
+//!
+//! The stack below a function is painted with a pattern, and then a call is made there. How far down the pattern is gone is read in
+//! `/proc/self/mem`, Linux's file of a process's own memory, for no safe code can look at the part of a stack that nobody holds.
+
+use crate::{map_of, Call, Memory, Slices, WHATS};
+use abi::session::Reply;
+use model::boards;
+use std::fs::File;
+use std::hint::black_box;
+use std::io;
+use std::os::unix::fs::FileExt;
+use std::thread;
+
+/// The longest side of a sheet.
+const SIDE: u16 = 2_048;
+
+/// The stack of the thread that measures, in bytes.
+const STACK: usize = 1 << 20;
+
+/// How much of it is painted, in words, and with what.
+const WORDS: usize = 1 << 15;
+const PAINT: u64 = 0xc35a_a53c_965a_e187;
+
+/// The bytes between the upper end of the paint and a call. To look at the paint afterwards takes less of the stack, so that it leaves what
+/// the call wrote.
+const ROOM: usize = 1 << 14;
+
+/// A call by its name, and what it needs besides the sheet.
+type Measured = (&'static str, fn(&mut Slices), Call);
+
+/// The calls that are not timed.
+const OTHERS: [Measured; 7] = [
+    ("open", |_| {}, |on| on.session.open(on.sheet, SIDE, SIDE)),
+    ("paint", |_| {}, |on| on.session.paint(on.sheet, 0, 0, SIDE, SIDE)),
+    ("erase", |_| {}, |on| on.session.erase(on.sheet, 0, 0, SIDE, SIDE)),
+    ("place", bare_row, |on| on.session.place(on.map, 0, 0, 0)),
+    ("run", lowered, |on| on.session.run(on.map, 0, SIDE - 1)),
+    ("lift", lowered, |on| on.session.lift()),
+    ("map row", map_of, |on| {
+        let row = on.session.map_row(on.map, SIDE - 1);
+        Reply { answer: u32::from(row.is_empty()), session: on.session }
+    }),
+];
+
+/// The exact map of the sheet with its first row bare, so that a cutter can go along it on every board.
+fn bare_row(on: &mut Slices) {
+    on.sheet[..SIDE.into()].fill(0);
+    map_of(on);
+}
+
+/// The same, with the cutter down where the row starts.
+fn lowered(on: &mut Slices) {
+    bare_row(on);
+    on.session = on.session.place(on.map, 0, 0, 0).session;
+}
+
+/// The table.
+pub fn table() -> io::Result<String> {
+    let thread = thread::Builder::new().stack_size(STACK).spawn(measure)?;
+    let lines = thread.join().expect("every call is done, on less of the stack than is painted")?;
+    let mut text = format!("the stack that a call takes at {SIDE} × {SIDE}, in bytes, the most on any board\n\n");
+    for (name, bytes) in lines {
+        text += &format!("{name:8}  {bytes:>6}\n");
+    }
+    Ok(text)
+}
+
+/// The most bytes of the stack that each call takes on one of the benchmark's boards.
+fn measure() -> io::Result<Vec<(&'static str, usize)>> {
+    let calls: Vec<Measured> = WHATS.map(|what| (what.name, what.ready, what.library)).into_iter().chain(OTHERS).collect();
+    let mut lines: Vec<_> = calls.iter().map(|&(name, ..)| (name, 0)).collect();
+    let mut memory = Memory::new(SIDE.into());
+    for name in boards::BENCHMARK {
+        let board = boards::benchmark(name, SIDE.into());
+        for (&(_, ready, call), (_, most)) in calls.iter().zip(&mut lines) {
+            let mut on = memory.lend(&board);
+            ready(&mut on);
+            *most = taken(call, &mut on)?.max(*most);
+        }
+    }
+    Ok(lines)
+}
+
+/// How many bytes of the stack a call takes: what it writes less what an empty call does.
+fn taken(call: Call, on: &mut Slices) -> io::Result<usize> {
+    let least = written(empty, on)?;
+    Ok(written(call, on)? - least)
+}
+
+fn empty(on: &mut Slices) -> Reply {
+    Reply { answer: 0, session: on.session }
+}
+
+/// How far down the paint is gone after a call, in bytes from its upper end.
+#[inline(never)]
+fn written(call: Call, on: &mut Slices) -> io::Result<usize> {
+    let from = paint();
+    let answer = below(call, on).answer;
+    assert_eq!(answer, 0);
+    let mut words = vec![0; 8 * WORDS];
+    File::open("/proc/self/mem")?.read_exact_at(&mut words, from as u64)?;
+    let left = words.chunks_exact(8).take_while(|word| **word == PAINT.to_ne_bytes()).count();
+    assert_ne!(left, 0);
+    Ok(8 * (WORDS - left))
+}
+
+/// Paints the stack below the caller, and says from which address on.
+#[inline(never)]
+fn paint() -> usize {
+    let mut words = [PAINT; WORDS];
+    black_box(&mut words).as_ptr().addr()
+}
+
+/// Makes a call with some room between it and the caller.
+#[inline(never)]
+fn below(call: Call, on: &mut Slices) -> Reply {
+    let room = [0_u8; ROOM];
+    black_box(&room);
+    let reply = call(on);
+    black_box(&room);
+    reply
+}
+
+#[cfg(test)]
+mod tests {
+    use super::*;
+    use model::boards::Board;
+
+    /// Writes so many bytes of the stack.
+    fn writes<const BYTES: usize>(on: &mut Slices) -> Reply {
+        black_box(&mut [7_u8; BYTES]);
+        empty(on)
+    }
+
+    /// Besides the bytes there may be an address to return to, some registers and a gap.
+    #[test]
+    fn what_is_written() {
+        let mut memory = Memory::new(1);
+        let mut taken = |call| taken(call, &mut memory.lend(&Board::bare(1, 1))).unwrap();
+        assert_eq!(taken(empty), 0);
+        for (call, bytes) in
+            [(writes::<100> as Call, 100), (writes::<3_000>, 3_000), (writes::<50_000>, 50_000), (writes::<200_000>, 200_000)]
+        {
+            let found = taken(call);
+            assert!((bytes..=bytes + 100).contains(&found), "{found}, not {bytes}");
+        }
+    }
+}
