@@ -305,7 +305,7 @@ fn solve_rows(
     }
 }
 
-// All rows, from the last. The working rows but `ways` are local.
+// All rows, from the last. The working row `ways` is lent, the others are local.
 fn solve(map: &mut [i16], w: usize, h: usize, ways: &mut [i16])
     requires { ⌜ (2 * (h * w) ≤ length (now map)) × ((w ≤ 2048) × (w ≤ length (now ways))) ⌝ }
     ensures { λ _. ⌜ Solved w h (now (map .entry)) (now (map .exit)) ⌝ }

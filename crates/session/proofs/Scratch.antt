@@ -22,7 +22,7 @@ use Rattle.session.proofs.Granted.{active-limits}
 abbrev shortByPixels : Session → List ℤ → Bool
 shortByPixels s scratch = ltb (length scratch) (s .height * s .width)
 
--- lent that scratch, the call answers by that table, and leaves the session, sheet and map that it leaves with that answer, lent any other
+-- with that scratch the call answers by that table; and whatever scratch it is lent, on that answer it leaves the same session, sheet and map
 pub record GoesBy (t : Table) (c : List ℤ → Call) (scratch : List ℤ) (w : World) : Type 0 where
   pub answers : answer (c scratch) w ≡ firstOf t
   pub leaves : (other : List ℤ) → worldAfter (c scratch) w ≡ left (c other) (firstOf t) w
