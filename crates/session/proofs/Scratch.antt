@@ -1,4 +1,4 @@
--- Scratch: document 01 asks for W × H numbers of it, document 02 (C-22) for 4 × W. Where there are enough by either rule, build, expand and shrink go by
+-- Scratch: document 01 asks for W × H numbers of it, document 02 (C-22) for 4 × W. Where there are enough by both, build, expand and shrink go by
 -- document 01's tables, and what they leave in session, sheet and map does not depend on scratch.
 -- Assumes nothing.
 use mathlib.Core.Path.{_≡_, sym, _∙_}

@@ -14,7 +14,7 @@ use Rattle.exact.proofs.Solved.{solved-exact}
 use Rattle.exact.proofs.exact.Statement.{statement}
 use Rattle.exact.proofs.exact.Tie as tie
 
--- where the first w numbers of scratch became others, as much of it is cleared
+-- what is left in scratch does not depend on what its first w numbers became
 row-cleared : (w : ℕ) (row scratch : List ℤ) → length row ≡ w → scratchLeft w (row ++ drop w scratch) ≡ scratchLeft w scratch
 row-cleared w row scratch e =
     let n : 4 * w ≡ length row + 3 * w = omega arith in

@@ -1,4 +1,4 @@
--- `exact::zero` meets its contract. The invariant: the first i numbers are 0, the rest are as they were.
+-- `exact::zero` meets its contract. The invariant: the first i numbers, of which there are at most n, are 0, the rest are as they were.
 -- Assumes nothing.
 use mathlib.Core.Path.{_≡_, refl}
 use Prim.Native.Nat.{_-_, _≤_}
@@ -9,22 +9,22 @@ use Rattle.exact.proofs.zero.Statement.{statement}
 use Rattle.exact.proofs.zero.Tie as tie
 
 abbrev Inv-loop : tie.InvT-loop
-Inv-loop scratch₀ n i₀ scratch i = Writing (λ k. pos 0) scratch₀ i scratch × (i ≤ n)
+Inv-loop scratch₀ n i₀ scratch i = (i ≤ n) × Writing (λ k. pos 0) scratch₀ i scratch
 
 abbrev μ-loop : tie.MeasureT-loop
 μ-loop scratch₀ n i₀ scratch i = n - i
 
 loop-holds : tie.Need-loop-holds Inv-loop μ-loop
-loop-holds c = (write-none _ _, omega arith)
+loop-holds c = (omega arith, write-none _ _)
 
 loop-again : tie.Need-loop-again Inv-loop μ-loop
-loop-again c = (write-more _ _ (c .before .loop .inv .0) (omega arith) refl, omega arith)
+loop-again c = (omega arith, write-more _ _ (c .before .loop .inv .1) (omega arith) refl)
 
 returns : tie.Need-returns Inv-loop μ-loop
 returns c =
     let l = c .before in
     let n : l .loop .i ≡ l .before .args .n = omega arith in
-    rw (n, tabulate-same _ (pos 0)) at (l .loop .inv .0 .made)
+    rw (n, tabulate-same _ (pos 0)) at (l .loop .inv .1 .made)
 
 pub zero-spec : {M : Type 1} → statement M
 zero-spec =
