@@ -9,7 +9,7 @@ ghost use Rattle.raster.specs.Sheet.{bare};
 ghost use Rattle.morphology.specs.Resize.{expanded, shrunk};
 ghost use Rattle.rebuild.specs.Rebuild.{rebuilt};
 ghost use Rattle.skeleton.specs.Skeleton.{skeletonOf};
-ghost use Rattle.session.specs.State.{fresh, openedAs, stale, builtBy, downAt};
+ghost use Rattle.session.specs.State.{fresh, openedAs, stale, builtBy};
 ghost use Rattle.session.specs.Maps.{engineMap};
 ghost use Rattle.session.specs.Refusals.{
   openTable,
@@ -25,6 +25,7 @@ ghost use Rattle.session.specs.Calls.{
   onDone,
   filledBy,
   scratchBy,
+  placeSession,
   runSession,
   liftSession,
   mapRow,
@@ -101,7 +102,7 @@ pub extern "C" fn abi_session_build(
 #[no_mangle]
 pub extern "C" fn abi_session_place(s: Session, map: &[i16], x: u16, y: u16, q: u32) -> Reply
     ensures answered { λ r. ⌜ r .answer ≡ firstOf (placeTable s (now (map .entry)) x y q) ⌝ }
-    ensures handed_back { λ r. ⌜ r .session ≡ onDone (r .answer) (downAt x y q s) s ⌝ }
+    ensures handed_back { λ r. ⌜ r .session ≡ onDone (r .answer) (placeSession s (now (map .entry)) x y q) s ⌝ }
 {
     s.place(map, x, y, q)
 }
@@ -109,7 +110,7 @@ pub extern "C" fn abi_session_place(s: Session, map: &[i16], x: u16, y: u16, q: 
 #[no_mangle]
 pub extern "C" fn abi_session_run(s: Session, map: &[i16], direction: u16, count: u16) -> Reply
     ensures answered { λ r. ⌜ r .answer ≡ firstOf (runTable s (now (map .entry)) direction count) ⌝ }
-    ensures handed_back { λ r. ⌜ r .session ≡ onDone (r .answer) (runSession s direction count) s ⌝ }
+    ensures handed_back { λ r. ⌜ r .session ≡ onDone (r .answer) (runSession s (now (map .entry)) direction count) s ⌝ }
 {
     s.run(map, direction, count)
 }

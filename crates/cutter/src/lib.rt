@@ -1,9 +1,12 @@
-// The cutter (document 01, "Calls", place and run): whether it may stand at a pixel of a map, and where a run takes it.
+// The cutter (document 01, "Calls", place and run; document 02, C-11): whether it may stand at a pixel of a map, where a run takes it, and how near it comes to
+// copper.
 ghost use mathlib.Core.Path.{_≡_};
+ghost use mathlib.Core.Bool.{not};
 ghost use Prim.Native.Nat.{_-_, _<_, _≤_};
 ghost use Rattle.raster.specs.Gate.{passes};
 ghost use Rattle.cutter.specs.Directions.{stepRight, stepDown, placeAfter, leavesSide, columnAfter, rowAfter};
 ghost use Rattle.cutter.specs.Gates.{knownEngine, gateOf, On, mayStand, OnSheet, cutterAfter, leavesSheet, blocked};
+ghost use Rattle.cutter.specs.Closest.{nearer, closestAt, closestAlong};
 
 // A cutter of q at the pixel (x, y), over a map of width × height pixels that an engine built.
 pub struct Cutter {
@@ -13,6 +16,27 @@ pub struct Cutter {
     pub x: u16,
     pub y: u16,
     pub q: u32,
+}
+
+// The closest approach: the least size of the labelled pixels that a cutter has met. Where it has met none the size is 0.
+#[repr(C)]
+pub struct Closest {
+    pub met: bool,
+    pub size: u32,
+}
+
+// What a look at pixels says: one of them does not pass the cutter; the closest approach with them.
+pub struct Look {
+    pub blocked: bool,
+    pub closest: Closest,
+}
+
+impl Closest {
+    // It has met none.
+    pub const NONE: Closest = Closest {
+        met: false,
+        size: 0,
+    };
 }
 
 // ---- the engines and their gates
@@ -39,13 +63,36 @@ fn passes_gate(engine: u16, a: u32, q: u32) -> bool
     2 * limit < size
 }
 
-// The pixel under the cutter passes it; an unlabelled one always does.
-pub fn may_stand(c: Cutter, map: &[i16]) -> bool
+// ---- what is met
+
+// The closest approach with one more labelled pixel, of size a.
+fn nearer(closest: Closest, a: u32) -> Closest
+    ensures { λ r. ⌜ r ≡ nearer a closest ⌝ }
+{
+    if closest.met & (closest.size <= a) {
+        return closest;
+    }
+    Closest { met: true, size: a }
+}
+
+// A look at the pixel under the cutter. An unlabelled one passes, and is no approach.
+pub fn look_at(c: Cutter, map: &[i16], closest: Closest) -> Look
     requires { ⌜ On c (now map) ⌝ }
-    ensures { λ r. ⌜ r ≡ mayStand c (now (map .entry)) ⌝ }
+    ensures stopped { λ r. ⌜ r .blocked ≡ not (mayStand c (now (map .entry))) ⌝ }
+    ensures met { λ r. ⌜ r .closest ≡ closestAt c (now (map .entry)) closest ⌝ }
 {
     let p = (c.y as usize) * (c.width as usize) + (c.x as usize);
-    raster::unlabelled_at(map, p) | passes_gate(c.engine, raster::size_at(map, p), c.q)
+    let size = raster::size_at(map, p);
+    if raster::unlabelled_at(map, p) {
+        return Look {
+            blocked: false,
+            closest,
+        };
+    }
+    Look {
+        blocked: !passes_gate(c.engine, size, c.q),
+        closest: nearer(closest, size),
+    }
 }
 
 // ---- the directions
@@ -136,14 +183,17 @@ pub fn cutter_after(mut c: Cutter, d: u16, n: u16) -> Cutter
     c
 }
 
-// Some pixel of a run after its start does not pass the cutter.
-pub fn is_blocked(c: Cutter, map: &[i16], d: u16, count: u16) -> bool
+// A look at each pixel of a run after its start.
+pub fn look_along(c: Cutter, map: &[i16], d: u16, count: u16, mut closest: Closest) -> Look
     requires { ⌜ OnSheet c (now map) d count ⌝ }
-    ensures { λ r. ⌜ r ≡ blocked c (now (map .entry)) d count ⌝ }
+    ensures stopped { λ r. ⌜ r .blocked ≡ blocked c (now (map .entry)) d count ⌝ }
+    ensures met { λ r. ⌜ r .closest ≡ closestAlong c (now (map .entry)) d count closest ⌝ }
 {
-    let mut met = false;
+    let mut blocked = false;
     for i in 0..count {
-        met = !may_stand(cutter_after(c, d, i + 1), map) | met;
+        let look = look_at(cutter_after(c, d, i + 1), map, closest);
+        blocked = look.blocked | blocked;
+        closest = look.closest;
     }
-    met
+    Look { blocked, closest }
 }

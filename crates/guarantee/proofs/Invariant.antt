@@ -1,5 +1,5 @@
--- What holds between two calls of a list: session and sheet agree with the board, the session is sound, a current map is its engine's map of the sheet, and
--- a lowered cutter stands free of copper. And what a gate says then.
+-- What holds between two calls of a list: session and sheet agree with the board, the session is sound, a current map is its engine's map of the sheet, a
+-- lowered cutter stands free of copper, and the closest approach is recorded. And what a gate says then, and an exact map.
 -- Assumes nothing.
 use mathlib.Core.Path.{_≡_, sym, subst, _∙_}
 use mathlib.Core.Bool.{true, false, not}
@@ -18,9 +18,10 @@ use Rattle.session.specs.Maps.{engineMap}
 use Rattle.session.specs.Lists.{World}
 use Rattle.session.proofs.Granted.{Limited, active-limits}
 use Rattle.guarantee.specs.Board.{Board}
-use Rattle.guarantee.specs.Claims.{withinFraction, Close, Agree, Free}
+use Rattle.guarantee.specs.Claims.{withinFraction, Close, Agree, Free, Least, Distant, Approach}
 use Rattle.guarantee.proofs.Gates.{gate-clear, gate-close, in-fraction}
-use Rattle.guarantee.proofs.Sound.{known-engine}
+use Rattle.guarantee.proofs.Approach.{least-distance, same-least}
+use Rattle.guarantee.proofs.Sound.{current-active, known-engine}
 
 pub record CurrentMap (w : World) : Type 0 where
   pub whole : length (w .sheet) ≡ w .session .height * w .session .width
@@ -31,6 +32,7 @@ pub record Inv (b : Board) (w : World) : Type 0 where
   pub fine : sound (w .session) ≡ true
   pub built : w .session .current ≡ true → CurrentMap w
   pub stands : w .session .lowered ≡ true → Free w (w .session .x) (w .session .y)
+  pub approach : Approach (w .map) (w .session .width) (w .session .height) (b .visited) (w .session .closest)
 
 -- an open sheet has a side other than 0
 pub opens : (s : Session) → active s ≡ true → true ≡ not (eqb (s .width) 0)
@@ -87,3 +89,16 @@ module _ {b : Board} {w : World} (inv : Inv b w) where
               subst (λ (e : ℕ). withinFraction e (apart x y (n .column) (n .row)) q ≡ true) (inv .agree .engine)
               (in-fraction (w .session .engine) (apart x y (n .column) (n .row)) q (engine .0) (engine .1) (n .within));
         }
+
+  -- ---- the closest approach on an exact map
+
+  pub exact-approach : b .engine ≡ 1 → Least (Distant (b .copper) (b .width) (b .height)) (b .visited) (w .session .closest)
+  exact-approach exact =
+      let s = w .session in
+      let current : s .current ≡ true = rw exact at (inv .agree .current) in
+      let l = active-limits s (current-active s (inv .fine) current) in
+      let e = inv .agree .engine ∙ exact in
+      same-least (λ x y n d. record { column = d .column; row = d .row; on-copper = on-board (d .on-copper); distance = d .distance })
+      (λ x y n d. record { column = d .column; row = d .row; on-copper = on-sheet (d .on-copper); distance = d .distance })
+      (least-distance (copperOf (w .sheet) (s .width)) (s .width) (s .height) (l .wide) (l .high)
+      (rw (inv .built current .map-is, e) at (inv .approach)))

@@ -3,6 +3,7 @@ pub mod Gates
 pub mod Answers
 pub mod Sound
 pub mod Copper
+pub mod Approach
 pub mod Invariant
 pub mod Steps
 pub mod Theorems

@@ -1,19 +1,20 @@
 -- The sessions that calls hand back are sound, and what a sound session says.
 -- Assumes nothing.
-use mathlib.Core.Path.{_≡_}
-use mathlib.Core.Bool.{true, _&&_}
+use mathlib.Core.Path.{_≡_, refl, sym, _∙_}
+use mathlib.Core.Bool.{Bool, true, false, cond, _&&_, true≢false}
 use Prim.Native.Nat.{ℕ, _<_, _≤_}
-use lib.Dec.{leb}
-use borrow.Author.Tests.{le-leb, lt-ltb, leb-true}
+use lib.Dec.{eqb, leb}
+use borrow.Author.Tests.{le-leb, lt-ltb, leb-true, not-true}
 use Rattle.raster.specs.Limits.{maxQ}
 use Rattle.raster.specs.Tests.{and-left, and-right}
+use Rattle.cutter.specs.declared.Closest.{Closest}
 use Rattle.cutter.specs.Gates.{knownEngine}
 use Rattle.session.specs.declared.Session.{Session}
-use Rattle.session.specs.State.{side, cutterSound, mapSound, sheetSound, sound, active, openedAs, stale, builtBy, downAt, upOf}
+use Rattle.session.specs.State.{side, closestSound, cutterSound, mapSound, sheetSound, sound, active, openedAs, stale, builtBy, downAt, upOf}
 use Rattle.session.proofs.Granted.{active-sides}
 
 pub open-sound : (w h : ℕ) → side w && side h ≡ true → sound (openedAs w h) ≡ true
-unfolding sound sheetSound mapSound cutterSound
+unfolding sound sheetSound mapSound cutterSound closestSound
 open-sound w h e = rw e
 
 -- ---- what a sound session says
@@ -27,7 +28,20 @@ module _ (s : Session) (fine : sound s ≡ true) where
   unfolding sound
   map-part = and-left (mapSound s) _ (and-right (sheetSound s) _ fine)
 
-  -- a current map has a known engine
+  closest-part : closestSound s ≡ true
+  unfolding sound
+  closest-part = and-right (cutterSound s) _ (and-right (mapSound s) _ (and-right (sheetSound s) _ fine))
+
+  -- a current map has a sheet
+  pub current-active : s .current ≡ true → active s ≡ true
+  unfolding sheetSound
+  current-active c = go (s .opened) refl
+    where
+      go : (t : Bool) → s .opened ≡ t → t && sound s ≡ true
+      go true o = fine
+      go false o = absurd (true≢false (sym c ∙ not-true _ (and-right (eqb (s .height) 0) _ (and-right (eqb (s .width) 0) _ (rw o at sheet-part)))))
+
+  -- and a known engine
   pub known-engine : s .current ≡ true → (1 ≤ s .engine) × (s .engine ≤ 3)
   unfolding mapSound
   known-engine c =
@@ -35,12 +49,14 @@ module _ (s : Session) (fine : sound s ≡ true) where
       (leb-true 1 (s .engine) (and-left (leb 1 (s .engine)) _ e), leb-true (s .engine) 3 (and-right (leb 1 (s .engine)) _ e))
 
   pub up-sound : sound (upOf s) ≡ true
-  unfolding sound sheetSound mapSound cutterSound
-  up-sound = rw (sheet-part, map-part)
+  unfolding sound sheetSound mapSound cutterSound closestSound
+  up-sound = rw (sheet-part, map-part, closest-part)
 
-  pub down-sound : (x y q : ℕ) → s .current ≡ true → x < s .width → y < s .height → q ≤ maxQ → sound (downAt x y q s) ≡ true
-  unfolding sound sheetSound mapSound cutterSound
-  down-sound x y q c i j k = rw (sheet-part, map-part, c, lt-ltb x (s .width) i, lt-ltb y (s .height) j, le-leb q maxQ k)
+  -- none has the size 0
+  pub down-sound : (x y q : ℕ) (k : Closest) → cond (k .met) true (eqb (k .size) 0) ≡ true
+      → s .current ≡ true → x < s .width → y < s .height → q ≤ maxQ → sound (downAt x y q k s) ≡ true
+  unfolding sound sheetSound mapSound cutterSound closestSound
+  down-sound x y q k none c i j l = rw (sheet-part, map-part, c, lt-ltb x (s .width) i, lt-ltb y (s .height) j, le-leb q maxQ l) none
 
 -- ---- of an open sheet
 
@@ -52,5 +68,5 @@ module _ (s : Session) (open-sheet : active s ≡ true) where
   stale-sound = open-sound (s .width) (s .height) (active-sides s open-sheet)
 
   pub built-sound : (e : ℕ) → knownEngine e ≡ true → sound (builtBy e s) ≡ true
-  unfolding sound sheetSound mapSound cutterSound
+  unfolding sound sheetSound mapSound cutterSound closestSound
   built-sound e k = rw (active-sides s open-sheet, k)

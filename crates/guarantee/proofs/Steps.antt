@@ -2,13 +2,15 @@
 -- Assumes nothing.
 use mathlib.Core.Path.{_≡_, refl, sym, ap, subst, _∙_}
 use mathlib.Core.Bool.{Bool, true, false, not, cond, _&&_, _||_, true≢false}
-use mathlib.Core.List.{List}
+use mathlib.Core.List.{List, [], _∷_, _++_}
 use mathlib.Core.Option.{Option}
-use Prim.Native.Nat.{ℕ, _+_, _-_, _<_, _≤_}
+use Prim.Native.Nat.{ℕ, zero, suc, _+_, _-_, _<_, _≤_}
+use native.Mathlib.Numerals.{add-one}
 use native.Mathlib.Omega.{arith}
 use lib.Dec.{eqb, leb}
 use lib.IntN.{ℤ, pos, natAbs}
 use borrow.Author.Tests.{eqb-true, ne-eqb, leb-true, not-true, not-false}
+use Rattle.raster.specs.Loop.{ascend}
 use Rattle.raster.specs.LoopLaws.{any-found, any-false}
 use Rattle.raster.specs.Distance.{Clear}
 use Rattle.raster.specs.Pixels.{Mask}
@@ -16,21 +18,24 @@ use Rattle.raster.specs.Tests.{and-left}
 use Rattle.raster.specs.Sheet.{copperOf, bare, inRectangle}
 use Rattle.raster.specs.Map.{unmapped}
 use Rattle.raster.specs.Refusal.{firstOf}
+use Rattle.cutter.specs.declared.Closest.{Closest}
+use Rattle.cutter.specs.Closest.{unmet, closestAt, closestAlong}
 use Rattle.cutter.specs.Directions.{walk, columnAfter, rowAfter}
 use Rattle.cutter.specs.Gates.{cutterAfter, mayStand, blocked}
 use Rattle.cutter.proofs.Walk.{reached, on-the-way}
 use Rattle.session.specs.declared.Session.{Session}
-use Rattle.session.specs.State.{sound, active, cutterUp, stale, builtBy, cutterAs, ownCutter}
+use Rattle.session.specs.State.{sound, active, cutterUp, stale, builtBy, recorded, cutterOf, ownCutter}
 use Rattle.session.specs.Maps.{engineMap}
 use Rattle.session.specs.Refusals.{openTable, fillTable, buildTable, buildTableBy, placeRows, placeTable, runRows, runTable, resizeTable, resizeTableBy, readTable}
 use Rattle.session.specs.Calls.{filledBy, runSession}
 use Rattle.session.specs.Lists.{Lent, Call, opening, paint, erase, build, place, run, lift, expand, shrink, skeleton, rebuild, aside, World, world, lentTo, tableOf, answer, left, worldAfter}
-use Rattle.session.proofs.Granted.{open-granted, fill-granted, Building, build-granted, place-done, place-stopped, RunGranted, run-done, run-stopped, resize-granted}
-use Rattle.guarantee.specs.Board.{BoardCutter, up, down, Board, recoppered, withCutter, cutterRun, done, feed}
-use Rattle.guarantee.specs.Claims.{Visits, at-place, at-step, Safe, Fair, Claim, SameCutter, Free}
+use Rattle.session.proofs.Granted.{open-granted, fill-granted, Building, build-granted, Placing, place-done, place-stopped, RunGranted, run-done, run-stopped, resize-granted}
+use Rattle.guarantee.specs.Board.{BoardCutter, up, down, Board, boardOf, recoppered, withCutter, cutterRun, path, pathRun, done, feed}
+use Rattle.guarantee.specs.Claims.{Visits, at-place, at-step, Safe, Fair, Claim, SameCutter, Free, Approach}
 use Rattle.guarantee.proofs.Answers.{without, never}
 use Rattle.guarantee.proofs.Sound.{open-sound, stale-sound, built-sound, up-sound, down-sound}
 use Rattle.guarantee.proofs.Copper.{bare-copper, filled-copper, expanded-copper, shrunk-copper}
+use Rattle.guarantee.proofs.Approach.{no-approach, one-none, with-pixel}
 use Rattle.guarantee.proofs.Invariant.{CurrentMap, Inv, opens, above, passed-clear, failed-close}
 
 pub record StepHolds (c : Call) (b : Board) (w : World) : Type 0 where
@@ -68,17 +73,18 @@ module _ (P : (x y q : ℕ) → Type 0) where
 -- ---- a sheet is open, the cutter up
 
 abbrev upOver : (x y engine : ℕ) (current : Bool) → Session
-upOver x y e c = cutterUp true x y c e
+upOver x y e c = cutterUp true x y c e unmet
 
 up-inv : (x y e : ℕ) (c : Bool) (copper : Mask) (sheet : List ℕ) (map : List ℤ) → sound (upOver x y e c) ≡ true → c ≡ not (eqb e 0)
     → ((i j : ℕ) → i < x → j < y → copperOf sheet x i j ≡ copper i j)
     → (c ≡ true → CurrentMap (world (upOver x y e c) sheet map))
-    → Inv (record { width = x; height = y; copper = copper; engine = e; cutter = up }) (world (upOver x y e c) sheet map)
+    → Inv (boardOf x y copper e) (world (upOver x y e c) sheet map)
 up-inv x y e c copper sheet map fine known same built = record {
   agree = record { width = refl; height = refl; engine = refl; cutter = refl; opened = opens (upOver x y e c) fine; current = known; copper = same };
   fine = fine;
   built = built;
   stands = λ l. absurd (true≢false (sym l));
+  approach = no-approach;
 }
 
 module _ {b : Board} {w : World} (inv : Inv b w) where
@@ -208,12 +214,17 @@ module _ {b : Board} {w : World} (inv : Inv b w) where
     build-step =
         quiet-step (build e scratch) refl (λ a c q. elim [ ]) (λ p. built-inv (build-granted s (w .sheet) (w .map) scratch e refl p))
 
-  -- ---- lift, place and run: the cutter alone changes
+  -- ---- lift, place and run: the cutter and its closest approach alone change
 
-  cutter-inv : (l : Bool) (x y q : ℕ) (k : BoardCutter) → SameCutter k (cutterAs l x y q s) → sound (cutterAs l x y q s) ≡ true
+  abbrev withCutterAs : (lowered : Bool) (x y q : ℕ) (closest : Closest) → Session
+  withCutterAs l x y q k = recorded (s .opened) (s .width) (s .height) (s .current) (s .engine) l x y q k
+
+  cutter-inv : (l : Bool) (x y q : ℕ) (closest : Closest) (k : BoardCutter) (visited : List (ℤ × ℤ)) → let t = withCutterAs l x y q closest in
+      SameCutter k t → sound t ≡ true
       → (l ≡ true → Clear (copperOf (w .sheet) (s .width)) (s .width) (s .height) x y q)
-      → Inv (withCutter k b) (world (cutterAs l x y q s) (w .sheet) (w .map))
-  cutter-inv l x y q k as-said fine clear = record {
+      → Approach (w .map) (s .width) (s .height) visited closest
+      → Inv (withCutter k visited b) (world t (w .sheet) (w .map))
+  cutter-inv l x y q closest k visited as-said fine clear approach = record {
     agree = record {
       width = inv .agree .width;
       height = inv .agree .height;
@@ -226,12 +237,14 @@ module _ {b : Board} {w : World} (inv : Inv b w) where
     fine = fine;
     built = λ c. let m = inv .built c in record { whole = m .whole; map-is = m .map-is };
     stands = clear;
+    approach = approach;
   }
 
   pub lift-step : StepHolds lift b w
   lift-step =
       quiet-step lift refl (λ a c q. elim [ ])
-      (λ e. rw (inv .fine) (cutter-inv false 0 0 0 up refl (up-sound s (inv .fine)) (λ l. absurd (true≢false (sym l)))))
+      (λ e. rw (inv .fine)
+      (cutter-inv false 0 0 0 (s .closest) up (b .visited) refl (up-sound s (inv .fine)) (λ l. absurd (true≢false (sym l))) (inv .approach)))
 
   pub place-step : (x y q : ℕ) → StepHolds (place x y q) b w
   unfolding placeTable placeRows
@@ -242,8 +255,8 @@ module _ {b : Board} {w : World} (inv : Inv b w) where
       let g = r .0 in
       let free = passed-clear inv (g .open-sheet) (g .current) x y q (g .across) (g .down) (r .1) in (
         at-pixel (λ i j p. Clear (b .copper) (b .width) (b .height) i j p) x y q (above inv q x y free),
-        cutter-inv true x y q (down (pos x, pos y) q) (refl, (refl, refl))
-            (down-sound s (inv .fine) x y q (g .current) (g .across) (g .down) (g .small)) (λ l. free),
+        cutter-inv true x y q _ (down (pos x, pos y) q) ((pos x, pos y) ∷ []) (refl, (refl, refl))
+            (down-sound s (inv .fine) x y q _ (one-none (met g .least)) (g .current) (g .across) (g .down) (g .small)) (λ l. free) (met g),
       ))
       (λ e.
       let r = place-stopped s (w .map) x y q e in
@@ -254,6 +267,9 @@ module _ {b : Board} {w : World} (inv : Inv b w) where
         visited = at-place x y q (b .cutter);
         close = failed-close inv (g .open-sheet) (g .current) x y q (g .across) (g .down) (r .1);
       })
+    where
+      met : Placing s (w .map) x y q → Approach (w .map) (s .width) (s .height) ((pos x, pos y) ∷ []) (closestAt (cutterOf s x y q) (w .map) unmet)
+      met g = with-pixel (w .map) (s .width) x y (g .across) (g .down) refl no-approach
 
   module _ (d n : ℕ) where
     -- the cutter may stand where i steps end
@@ -300,9 +316,25 @@ module _ {b : Board} {w : World} (inv : Inv b w) where
           close = rw (← e) (failed-close inv (g .open-sheet) (g .cutter .current) x y (s .q) (o .end .across) (o .end .down) (not-true _ (f .passes)));
         }
 
-    moves : RunGranted s (w .map) d n → (k : BoardCutter) → SameCutter k s → SameCutter (cutterRun d n k) (runSession s d n)
+    moves : RunGranted s (w .map) d n → (k : BoardCutter) → SameCutter k s → SameCutter (cutterRun d n k) (runSession s (w .map) d n)
     moves g up e = absurd (true≢false (sym (g .lowered) ∙ e))
     moves g (down p q) (l, (a, e)) = (refl, (ap (walk d n) a ∙ steps-reach g n (omega arith), e))
+
+    -- the closest approach with the pixels of its first i steps
+    meets : RunGranted s (w .map) d n → (i : ℕ) → i ≤ n
+        → Approach (w .map) (s .width) (s .height) (path d i (pos (s .x), pos (s .y)) ++ b .visited) (closestAlong (ownCutter s) (w .map) d i (s .closest))
+    unfolding path closestAlong ascend
+    meets g zero l = inv .approach
+    meets g (suc i) l =
+        let o = on-the-way (g .on) l in
+        rw (add-one i)
+        (with-pixel (w .map) (s .width) (columnAfter d (suc i) (s .x)) (rowAfter d (suc i) (s .y)) (o .end .across) (o .end .down)
+        (steps-reach g (suc i) l) (meets g i (omega arith)))
+
+    met-by : RunGranted s (w .map) d n → (k : BoardCutter) → SameCutter k s
+        → Approach (w .map) (s .width) (s .height) (pathRun d n k ++ b .visited) (closestAlong (ownCutter s) (w .map) d n (s .closest))
+    met-by g up e = absurd (true≢false (sym (g .lowered) ∙ e))
+    met-by g (down p q) (l, (a, e)) = rw a (meets g n (omega arith))
 
     -- where the run ends
     ends-free : RunGranted s (w .map) d n → blocked (ownCutter s) (w .map) d n ≡ false → Free w (columnAfter d n (s .x)) (rowAfter d n (s .y))
@@ -314,11 +346,14 @@ module _ {b : Board} {w : World} (inv : Inv b w) where
         step-holds (run d n)
         (λ e.
         let r = run-done s (w .map) d n e in
-        let g = r .0 in (
+        let g = r .0 in
+        let x = columnAfter d n (s .x) in
+        let y = rowAfter d n (s .y) in
+        let a = met-by g (b .cutter) (inv .agree .cutter) in (
           run-safe g (r .1),
-          cutter-inv true (columnAfter d n (s .x)) (rowAfter d n (s .y)) (s .q) (cutterRun d n (b .cutter)) (moves g (b .cutter) (inv .agree .cutter))
-              (down-sound s (inv .fine) (columnAfter d n (s .x)) (rowAfter d n (s .y)) (s .q) (g .cutter .current) (g .on .end .across) (g .on .end .down) (g .cutter .small))
-              (λ l. ends-free g (r .1)),
+          cutter-inv true x y (s .q) _ (cutterRun d n (b .cutter)) (pathRun d n (b .cutter) ++ b .visited) (moves g (b .cutter) (inv .agree .cutter))
+              (down-sound s (inv .fine) x y (s .q) _ (one-none (a .least)) (g .cutter .current) (g .on .end .across) (g .on .end .down) (g .cutter .small))
+              (λ l. ends-free g (r .1)) a,
         ))
         (λ e. let r = run-stopped s (w .map) d n e in stopped (b .cutter) refl (inv .agree .cutter) (r .0) (r .1))
 

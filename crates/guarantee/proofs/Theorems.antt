@@ -1,4 +1,5 @@
--- Demand 3: the theorem over all lists of calls, by induction over the list with the invariant of `Invariant`; and what it says in the workshop.
+-- Demand 3: the theorem over all lists of calls, by induction over the list with the invariant of `Invariant`; what it says in the workshop; and over the
+-- same lists the closest approach.
 -- Assumes nothing.
 use mathlib.Core.Path.{refl, sym}
 use mathlib.Core.Bool.{true≢false}
@@ -6,11 +7,12 @@ use mathlib.Core.List.{List, [], _∷_}
 use Prim.Native.Nat.{ℕ}
 use native.Mathlib.Omega.{arith}
 use lib.IntN.{ℤ}
-use Rattle.session.specs.State.{fresh, cutterSound, mapSound, sheetSound, sound}
+use Rattle.session.specs.State.{fresh, closestSound, cutterSound, mapSound, sheetSound, sound}
 use Rattle.session.specs.Lists.{Call, opening, paint, erase, build, place, run, lift, expand, shrink, skeleton, rebuild, aside, World, world, leftBy}
 use Rattle.guarantee.specs.Board.{Board, blank}
-use Rattle.guarantee.specs.Claims.{ClaimsHold, Guarantee, Workshop}
-use Rattle.guarantee.proofs.Invariant.{Inv}
+use Rattle.guarantee.specs.Claims.{ClaimsHold, Guarantee, Workshop, Along, ClosestApproach, TrueApproach}
+use Rattle.guarantee.proofs.Approach.{no-approach}
+use Rattle.guarantee.proofs.Invariant.{Inv, exact-approach}
 use Rattle.guarantee.proofs.Steps.{
   StepHolds,
   open-step,
@@ -44,12 +46,13 @@ step aside inv = aside-step inv
 
 -- at the start
 start : (sheet : List ℕ) (map : List ℤ) → Inv blank (world fresh sheet map)
-unfolding sound sheetSound mapSound cutterSound
+unfolding sound sheetSound mapSound cutterSound closestSound
 start sheet map = record {
   agree = record { width = refl; height = refl; engine = refl; cutter = refl; opened = refl; current = refl; copper = λ i j k l. absurd (omega arith) };
   fine = refl;
   built = λ e. absurd (true≢false (sym e));
   stands = λ e. absurd (true≢false (sym e));
+  approach = no-approach;
 }
 
 holds : (cs : List Call) {b : Board} {w : World} → Inv b w → ClaimsHold cs b w
@@ -76,3 +79,17 @@ pub workshop : Workshop
 workshop cs sheet map lowered =
     let l = left cs (start sheet map) in
     (l .inv .stands lowered, λ d n done. run-free (l .inv) d n done)
+
+-- ---- the closest approach
+
+along : (P : Board → World → Type 0) → ((b : Board) (w : World) → Inv b w → P b w) → (cs : List Call) {b : Board} {w : World} → Inv b w → Along P cs b w
+along P says [] inv = tt
+along P says (c ∷ cs) inv = let s = step c inv in (says _ _ (s .next), along P says cs (s .next))
+
+-- whatever list of calls: after every call the least size met since the last placing is recorded
+pub closest-approach : ClosestApproach
+closest-approach cs sheet map = along _ (λ b w inv. inv .approach) cs (start sheet map)
+
+-- on an exact map it is the least true squared distance
+pub true-approach : TrueApproach
+true-approach cs sheet map = along _ (λ b w inv. exact-approach inv) cs (start sheet map)

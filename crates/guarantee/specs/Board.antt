@@ -1,7 +1,8 @@
--- The plain board: document 01, "Lists of calls". It is fed each call's numbers and its answer, and nothing from session or slices.
+-- The plain board: document 01, "Lists of calls", and for the places visited document 02, C-11. It is fed each call's numbers and its answer, and nothing from session or slices.
 -- Assumes nothing.
 use mathlib.Core.Bool.{false, cond, not, _&&_, _||_}
-use Prim.Native.Nat.{ℕ}
+use mathlib.Core.List.{List, [], _∷_, _++_}
+use Prim.Native.Nat.{ℕ, zero, suc}
 use lib.Dec.{eqb}
 use lib.IntN.{ℤ, pos}
 use Rattle.raster.specs.Pixels.{Mask}
@@ -15,39 +16,53 @@ pub data BoardCutter : Type 0 where
   up : BoardCutter
   down : (at : ℤ × ℤ) (q : ℕ) → BoardCutter
 
--- W, H, the copper, the engine and the cutter
+-- W, H, the copper, the engine, the cutter, and the places that it has visited since the last placing that was done
 pub record Board : Type 0 where
   pub width : ℕ
   pub height : ℕ
   pub copper : Mask
   pub engine : ℕ
   pub cutter : BoardCutter
+  pub visited : List (ℤ × ℤ)
+
+-- its cutter is up and has visited nothing
+abbrev pub boardOf : (w h : ℕ) (copper : Mask) (engine : ℕ) → Board
+boardOf w h m e = record { width = w; height = h; copper = m; engine = e; cutter = up; visited = [] }
 
 -- at the start
 abbrev pub blank : Board
-blank = record { width = 0; height = 0; copper = λ i j. false; engine = 0; cutter = up }
+blank = boardOf 0 0 (λ i j. false) 0
 
--- with other copper, and with another cutter
+-- with other copper, and with another cutter and what that has visited
 abbrev pub recoppered : Mask → Board → Board
-recoppered m b = record { width = b .width; height = b .height; copper = m; engine = 0; cutter = up }
+recoppered m b = boardOf (b .width) (b .height) m 0
 
-abbrev pub withCutter : BoardCutter → Board → Board
-withCutter c b = record { width = b .width; height = b .height; copper = b .copper; engine = b .engine; cutter = c }
+abbrev pub withCutter : BoardCutter → (visited : List (ℤ × ℤ)) → Board → Board
+withCutter c v b = record { width = b .width; height = b .height; copper = b .copper; engine = b .engine; cutter = c; visited = v }
 
 -- where a run of n steps leaves the cutter
 abbrev pub cutterRun : (direction n : ℕ) → BoardCutter → BoardCutter
 cutterRun d n up = up
 cutterRun d n (down p q) = down (walk d n p) q
 
+-- the places that its single steps reach, the last one first
+unfoldable pub path : (direction n : ℕ) → ℤ × ℤ → List (ℤ × ℤ)
+path d zero p = []
+path d (suc n) p = walk d (suc n) p ∷ path d n p
+
+abbrev pub pathRun : (direction n : ℕ) → BoardCutter → List (ℤ × ℤ)
+pathRun d n up = []
+pathRun d n (down p q) = path d n p
+
 -- after a call that is done
 abbrev pub done : Call → Board → Board
-done (opening w h o) b = record { width = w; height = h; copper = λ i j. false; engine = 0; cutter = up }
+done (opening w h o) b = boardOf w h (λ i j. false) 0
 done (paint x y c r) b = recoppered (λ i j. inRectangle x y c r i j || b .copper i j) b
 done (erase x y c r) b = recoppered (λ i j. not (inRectangle x y c r i j) && b .copper i j) b
-done (build e s) b = record { width = b .width; height = b .height; copper = b .copper; engine = e; cutter = up }
-done (place x y q) b = withCutter (down (pos x, pos y) q) b
-done (run d n) b = withCutter (cutterRun d n (b .cutter)) b
-done lift b = withCutter up b
+done (build e s) b = boardOf (b .width) (b .height) (b .copper) e
+done (place x y q) b = withCutter (down (pos x, pos y) q) ((pos x, pos y) ∷ []) b
+done (run d n) b = withCutter (cutterRun d n (b .cutter)) (pathRun d n (b .cutter) ++ b .visited) b
+done lift b = withCutter up (b .visited) b
 done (expand q s) b = recoppered (grows (b .copper) (b .width) (b .height) q) b
 done (shrink q s) b = recoppered (stays (b .copper) (b .width) (b .height) q) b
 done (skeleton out) b = b

@@ -1,16 +1,25 @@
--- Demand 3: one claim about a whole list of calls, for all lists (document 01, "Lists of calls").
+-- Demand 3: one claim about a whole list of calls, for all lists (document 01, "Lists of calls"); and over the same lists the closest approach (document 02,
+-- C-11).
 --   At every call that is done, all of the board's copper is at squared distance above q from every pixel to which the call brings a lowered cutter of q,
 --   those within a run too (`Safe`). After it session and sheet agree with the board (`Agree`). A place or run answered 34 has a pixel that it tests with
 --   copper within the engine's fraction of q (`Fair`). `Guarantee` says so of every list; `Workshop` says it of the session and sheet alone.
+--   After every call the session has recorded the least size, on the current map, of the pixels visited since the last placing that was done
+--   (`ClosestApproach`); on an exact map that is their least true squared distance (`TrueApproach`).
 -- Assumes nothing.
 use mathlib.Core.Bool.{Bool, true, false, cond, not}
 use mathlib.Core.List.{List, [], _∷_}
+use mathlib.Core.Logic.{_⊎_}
 use mathlib.Core.Path.{_≡_}
 use Prim.Native.Nat.{ℕ, _*_, _<_, _≤_}
 use lib.Dec.{eqb, leb}
 use lib.IntN.{ℤ, pos}
 use Rattle.raster.specs.Distance.{apart, Copper, Clear}
+use Rattle.raster.specs.Map.{sizeAt, unlabelledAt}
+use Rattle.raster.specs.Pixels.{Mask, index}
+use Rattle.raster.specs.Place.{isPixel}
 use Rattle.raster.specs.Sheet.{copperOf}
+use Rattle.cutter.specs.declared.Closest.{Closest}
+use Rattle.cutter.specs.Closest.{unmet, metAt}
 use Rattle.cutter.specs.Directions.{walk}
 use Rattle.session.specs.declared.Session.{Session}
 use Rattle.session.specs.State.{fresh}
@@ -97,3 +106,48 @@ Workshop = (cs : List Call) (sheet : List ℕ) (map : List ℤ) → let w = left
     → Free w (w .session .x) (w .session .y)
     × ((d n : ℕ) → answer (run d n) w ≡ 0 → (i x y : ℕ) → 1 ≤ i → i ≤ n
     → walk d i (pos (w .session .x), pos (w .session .y)) ≡ (pos x, pos y) → Free w x y)
+
+-- ---- the closest approach: document 02, C-11
+
+-- the place p is one of a list
+abbrev pub Among : (p : ℤ × ℤ) → List (ℤ × ℤ) → Type 0
+Among p [] = ⊥
+Among p (o ∷ os) = (o ≡ p) ⊎ Among p os
+
+-- what is recorded is the least of the numbers that the visited pixels have; none if no visited pixel has a number
+pub data Least (Has : (x y n : ℕ) → Type 0) (visited : List (ℤ × ℤ)) : Closest → Type 0 where
+  none-met : ((x y : ℕ) → Among (pos x, pos y) visited → (n : ℕ) → Has x y n → ⊥) → Least Has visited unmet
+  least-met : (x y n : ℕ) → Among (pos x, pos y) visited → Has x y n
+      → ((i j : ℕ) → Among (pos i, pos j) visited → (m : ℕ) → Has i j m → n ≤ m) → Least Has visited (metAt n)
+
+-- on a map of w columns the pixel (x, y) is labelled, and n is its size
+pub record Sized (map : List ℤ) (w x y n : ℕ) : Type 0 where
+  pub labelled : unlabelledAt map (index w x y) ≡ false
+  pub size : sizeAt map (index w x y) ≡ n
+
+-- n is the squared distance of the pixel (x, y) to a copper pixel
+pub record Distant (copper : Mask) (w h x y n : ℕ) : Type 0 where
+  pub column : ℕ
+  pub row : ℕ
+  pub on-copper : Copper copper w h column row
+  pub distance : apart x y column row ≡ n
+
+-- the places visited are pixels, and what is recorded is the least size of those that are labelled
+pub record Approach (map : List ℤ) (w h : ℕ) (visited : List (ℤ × ℤ)) (closest : Closest) : Type 0 where
+  pub pixels : (p : ℤ × ℤ) → Among p visited → isPixel w h p ≡ true
+  pub least : Least (Sized map w) visited closest
+
+-- something holds after each call of a list
+abbrev pub Along : (P : Board → World → Type 0) → List Call → Board → World → Type 0
+Along P [] b w = Unit {0}
+Along P (c ∷ cs) b w = P (feed c (answer c w) b) (worldAfter c w) × Along P cs (feed c (answer c w) b) (worldAfter c w)
+
+-- the theorem, over the same lists: the session has recorded the closest approach on the current map
+abbrev pub ClosestApproach : Type 0
+ClosestApproach = (cs : List Call) (sheet : List ℕ) (map : List ℤ)
+    → Along (λ b w. Approach (w .map) (w .session .width) (w .session .height) (b .visited) (w .session .closest)) cs blank (world fresh sheet map)
+
+-- on an exact map that is the least true squared distance of the pixels visited; none without copper
+abbrev pub TrueApproach : Type 0
+TrueApproach = (cs : List Call) (sheet : List ℕ) (map : List ℤ)
+    → Along (λ b w. b .engine ≡ 1 → Least (Distant (b .copper) (b .width) (b .height)) (b .visited) (w .session .closest)) cs blank (world fresh sheet map)

@@ -17,10 +17,10 @@ use Rattle.raster.specs.Sheet.{bare}
 use Rattle.morphology.specs.Resize.{expanded, shrunk}
 use Rattle.session.specs.declared.Session.{Session}
 use Rattle.session.specs.declared.Reply.{Reply}
-use Rattle.session.specs.State.{openedAs, stale, builtBy, downAt}
+use Rattle.session.specs.State.{openedAs, stale, builtBy}
 use Rattle.session.specs.Maps.{engineMap}
 use Rattle.session.specs.Refusals.{openTable, fillTable, buildTable, placeTable, runTable, resizeTable}
-use Rattle.session.specs.Calls.{onDone, filledBy, scratchBy, runSession, liftSession}
+use Rattle.session.specs.Calls.{onDone, filledBy, scratchBy, placeSession, runSession, liftSession}
 use Rattle.session.specs.Lists.{World, world}
 use Rattle.records.specs.declared.Record.the-variants.{Open, Paint, Erase, Build, Place, Run, Lift, Expand, Shrink}
 use Rattle.job.specs.declared.Done.{Done}
@@ -145,14 +145,16 @@ module _ (s : Session) (n : ℕ) (sheet : List ℕ) where
     }
 
 module _ (s : Session) (n : ℕ) (map : List ℤ) (r : Reply) where
-  pub place-executed : (x y q : ℕ) → r .answer ≡ firstOf (placeTable s (take (2 * n) map) x y q) → r .session ≡ onDone (r .answer) (downAt x y q s) s
+  pub place-executed : (x y q : ℕ) → r .answer ≡ firstOf (placeTable s (take (2 * n) map) x y q)
+      → r .session ≡ onDone (r .answer) (placeSession s (take (2 * n) map) x y q) s
       → (sheet : List ℕ) (scratch : List ℤ) → Executed (Place x y q) (jobState s n sheet map scratch) (r .answer) (jobState (r .session) n sheet map scratch)
   place-executed x y q answer session sheet scratch = record {
     answer = answer;
     left = rw (← answer, session, and-false (eqb (r .answer) 0)) (same-state (joined-session (eqb (r .answer) 0) _ _ _ _) refl refl);
   }
 
-  pub run-executed : (d k : ℕ) → r .answer ≡ firstOf (runTable s (take (2 * n) map) d k) → r .session ≡ onDone (r .answer) (runSession s d k) s
+  pub run-executed : (d k : ℕ) → r .answer ≡ firstOf (runTable s (take (2 * n) map) d k)
+      → r .session ≡ onDone (r .answer) (runSession s (take (2 * n) map) d k) s
       → (sheet : List ℕ) (scratch : List ℤ) → Executed (Run d k) (jobState s n sheet map scratch) (r .answer) (jobState (r .session) n sheet map scratch)
   run-executed d k answer session sheet scratch = record {
     answer = answer;

@@ -52,7 +52,8 @@ pub record Lowered (s : Session) : Type 0 where
 pub lowered-says : (s : Session) → sound s ≡ true → s .lowered ≡ true → Lowered s
 unfolding sound cutterSound
 lowered-says s fine l =
-    let all = both (s .current) _ (rw l at (and-right (mapSound s) _ (and-right (sheetSound s) _ fine))) in
+    let part = and-left (cutterSound s) _ (and-right (mapSound s) _ (and-right (sheetSound s) _ fine)) in
+    let all = both (s .current) _ (rw l at part) in
     let rest = both (ltb (s .x) (s .width) && ltb (s .y) (s .height)) _ (all .1) in
     let on = both (ltb (s .x) (s .width)) _ (rest .0) in
     record { current = all .0; across = ltb-true _ _ (on .0); down = ltb-true _ _ (on .1); small = leb-true _ _ (rest .1) }

@@ -1,4 +1,4 @@
--- What each call leaves: document 01, "Calls". A call that answers 0 does what is said here; any other leaves the session and every slice as they came.
+-- What each call leaves: document 01, "Calls", and document 02, C-11. A call that answers 0 does what is said here; any other leaves the session and every slice as they came.
 -- Assumes nothing.
 use mathlib.Core.Bool.{Bool, cond, _&&_}
 use mathlib.Core.List.{List, []}
@@ -8,9 +8,10 @@ use lib.IntN.{ℤ}
 use lib.ListN.{take, drop}
 use Rattle.raster.specs.Sheet.{filled}
 use Rattle.exact.specs.Nearest.{scratchLeft}
+use Rattle.cutter.specs.Closest.{unmet, closestAt, closestAlong}
 use Rattle.cutter.specs.Directions.{columnAfter, rowAfter}
 use Rattle.session.specs.declared.Session.{Session}
-use Rattle.session.specs.State.{fresh, sound, active, downAt, upOf}
+use Rattle.session.specs.State.{fresh, sound, active, downAt, upOf, cutterOf, ownCutter}
 use Rattle.session.specs.Refusals.{isMap}
 
 -- done: the new value; refused: the old one
@@ -25,11 +26,15 @@ filledBy s x y cols rows v sheet = filled (s .width) (s .height) x y cols rows v
 abbrev pub scratchBy : Session → List ℤ → List ℤ
 scratchBy s scratch = scratchLeft (s .width) scratch
 
--- run: the cutter is down where its steps end
-abbrev pub runSession : Session → (direction count : ℕ) → Session
-runSession s d n = downAt (columnAfter d n (s .x)) (rowAfter d n (s .y)) (s .q) s
+-- place: the cutter is down, and has met that pixel alone
+abbrev pub placeSession : Session → List ℤ → (x y q : ℕ) → Session
+placeSession s map x y q = downAt x y q (closestAt (cutterOf s x y q) map unmet) s
 
--- lift: done also if the cutter was up; a session that no call could hand back becomes a fresh one
+-- run: the cutter is down where its steps end, and has met the pixels on the way too
+abbrev pub runSession : Session → List ℤ → (direction count : ℕ) → Session
+runSession s map d n = downAt (columnAfter d n (s .x)) (rowAfter d n (s .y)) (s .q) (closestAlong (ownCutter s) map d n (s .closest)) s
+
+-- lift: done also if the cutter was up; the closest approach stays. A session that is not sound becomes a fresh one
 abbrev pub liftSession : Session → Session
 liftSession s = cond (sound s) (upOf s) fresh
 

@@ -12,10 +12,10 @@ use Rattle.raster.specs.Refusal.{Table, firstOf}
 use Rattle.raster.specs.Sheet.{bare}
 use Rattle.morphology.specs.Resize.{expanded, shrunk}
 use Rattle.session.specs.declared.Session.{Session}
-use Rattle.session.specs.State.{openedAs, stale, builtBy, downAt}
+use Rattle.session.specs.State.{openedAs, stale, builtBy}
 use Rattle.session.specs.Maps.{engineMap}
 use Rattle.session.specs.Refusals.{openTable, fillTable, buildTable, placeTable, runTable, resizeTable, skeletonTable, rebuildTable}
-use Rattle.session.specs.Calls.{onDone, filledBy, scratchBy, runSession, liftSession}
+use Rattle.session.specs.Calls.{onDone, filledBy, scratchBy, placeSession, runSession, liftSession}
 
 -- ---- the calls
 
@@ -92,8 +92,8 @@ left (opening x y o) a w = onDone a (world (openedAs x y) (bare (lentTo o w .she
 left (paint x y c r) a w = withSheet a (filledBy (w .session) x y c r 1 (w .sheet)) w
 left (erase x y c r) a w = withSheet a (filledBy (w .session) x y c r 0 (w .sheet)) w
 left (build e scratch) a w = onDone a (world (builtBy e (w .session)) (w .sheet) (engineMap (w .session) (w .sheet) e)) w
-left (place x y q) a w = withSession a (downAt x y q (w .session)) w
-left (run d n) a w = withSession a (runSession (w .session) d n) w
+left (place x y q) a w = withSession a (placeSession (w .session) (w .map) x y q) w
+left (run d n) a w = withSession a (runSession (w .session) (w .map) d n) w
 left lift a w = withSession a (liftSession (w .session)) w
 left (expand q scratch) a w = resized a (expanded (w .session .width) (w .session .height) q (w .sheet)) w
 left (shrink q scratch) a w = resized a (shrunk (w .session .width) (w .session .height) q (w .sheet)) w

@@ -1,5 +1,5 @@
-// The session (document 01): every call takes it by value and hands it back with an answer number, 0 if it was done. No call asks anything of its caller:
-// bad input gets its number, and a refusal changes nothing.
+// The session (document 01, and document 02, C-11): every call takes it by value and hands it back with an answer number, 0 if it was done. No call asks
+// anything of its caller: bad input gets its number, and a refusal changes nothing.
 ghost use mathlib.Core.Path.{_≡_};
 ghost use mathlib.Core.Bool.{cond, _&&_};
 ghost use Prim.Native.Nat.{_<_, _≤_};
@@ -27,6 +27,7 @@ ghost use Rattle.session.specs.Calls.{
   onDone,
   filledBy,
   scratchBy,
+  placeSession,
   runSession,
   liftSession,
   hasRow,
@@ -35,6 +36,8 @@ ghost use Rattle.session.specs.Calls.{
 
 mod state; // which sessions are sound, and how one changes
 mod refusals; // the answers
+
+use cutter::Closest;
 
 // What a session records.
 #[repr(C)]
@@ -48,6 +51,7 @@ pub struct Session {
     pub x: u16,
     pub y: u16,
     pub q: u32,
+    pub closest: Closest,
 }
 
 // What a call hands back.
@@ -120,13 +124,13 @@ fn write_map(s: Session, sheet: &[u8], map: &mut [i16], scratch: &mut [i16], eng
     scan::scan(sheet, map, w, h, false);
 }
 
-// The session with its cutter where the run ends.
-fn run_to(s: Session, d: u16, count: u16) -> Session
+// The session with its cutter where the run ends, and the closest approach.
+fn run_to(s: Session, d: u16, count: u16, closest: Closest) -> Session
     requires { ⌜ (d ≤ 7) × ((columnAfter d count (s .x) < s .width) × (rowAfter d count (s .y) < s .height)) ⌝ }
-    ensures { λ r. ⌜ r ≡ runSession s d count ⌝ }
+    ensures { λ r. ⌜ r ≡ downAt (columnAfter d count (s .x)) (rowAfter d count (s .y)) (s .q) closest s ⌝ }
 {
     let c = cutter::cutter_after(state::own_cutter(s), d, count);
-    state::down_at(s, c.x, c.y, c.q)
+    state::down_at(s, c.x, c.y, c.q, closest)
 }
 
 impl Session {
@@ -141,6 +145,7 @@ impl Session {
         x: 0,
         y: 0,
         q: 0,
+        closest: Closest::NONE,
     };
 
     // The longest side of a sheet.
@@ -209,34 +214,42 @@ impl Session {
         reply
     }
 
-    // Brings the cutter down at (x, y) with squared radius q, also where it was down before.
+    // Brings the cutter down at (x, y) with squared radius q, also where it was down before; the closest approach is then that pixel's size.
     pub fn place(mut self, map: &[i16], x: u16, y: u16, q: u32) -> Reply
         ensures answered { λ r. ⌜ r .answer ≡ firstOf (placeTable self (now (map .entry)) x y q) ⌝ }
-        ensures handed_back { λ r. ⌜ r .session ≡ onDone (r .answer) (downAt x y q self) self ⌝ }
+        ensures handed_back { λ r. ⌜ r .session ≡ onDone (r .answer) (placeSession self (now (map .entry)) x y q) self ⌝ }
     {
-        let answer = refusals::place_answer(self, map, x, y, q);
-        replied(answer, state::down_at(self, x, y, q), self)
-    }
-
-    // Moves the lowered cutter by `count` steps, whole or not at all.
-    pub fn run(mut self, map: &[i16], direction: u16, count: u16) -> Reply
-        ensures answered { λ r. ⌜ r .answer ≡ firstOf (runTable self (now (map .entry)) direction count) ⌝ }
-        ensures handed_back { λ r. ⌜ r .session ≡ onDone (r .answer) (runSession self direction count) self ⌝ }
-    {
-        let answer = refusals::run_answer(self, map, direction, count);
-        if answer != 0 {
+        let refusal = refusals::place_refusal(self, map, x, y, q);
+        if refusal != 0 {
             return Reply {
-                answer,
+                answer: refusal,
                 session: self,
             };
         }
-        Reply {
-            answer,
-            session: run_to(self, direction, count),
-        }
+        let none = Closest::NONE;
+        let look = cutter::look_at(state::cutter_of(self, x, y, q), map, none);
+        let placed = state::down_at(self, x, y, q, look.closest);
+        replied(refusals::gate_answer(look.blocked), placed, self)
     }
 
-    // Lifts the cutter; a session that no call could hand back becomes a fresh one.
+    // Moves the lowered cutter by `count` steps, whole or not at all; its pixels count for the closest approach.
+    pub fn run(mut self, map: &[i16], direction: u16, count: u16) -> Reply
+        ensures answered { λ r. ⌜ r .answer ≡ firstOf (runTable self (now (map .entry)) direction count) ⌝ }
+        ensures handed_back { λ r. ⌜ r .session ≡ onDone (r .answer) (runSession self (now (map .entry)) direction count) self ⌝ }
+    {
+        let refusal = refusals::run_refusal(self, map, direction, count);
+        if refusal != 0 {
+            return Reply {
+                answer: refusal,
+                session: self,
+            };
+        }
+        let look = cutter::look_along(state::own_cutter(self), map, direction, count, self.closest);
+        let moved = run_to(self, direction, count, look.closest);
+        replied(refusals::gate_answer(look.blocked), moved, self)
+    }
+
+    // Lifts the cutter, and keeps the closest approach; a session that is not sound becomes a fresh one.
     pub fn lift(mut self) -> Reply
         ensures answered { λ r. ⌜ r .answer ≡ 0 ⌝ }
         ensures handed_back { λ r. ⌜ r .session ≡ liftSession self ⌝ }

@@ -1,9 +1,10 @@
-// The answers: each function reads the table of its name in specs/Refusals. Of build, place and run a function reads the rows that look at numbers and lengths
-// alone; what the last row of build asks is known when the map is written.
+// The answers: each function reads the table of its name in specs/Refusals. Of place and run there is one for the rows that look at numbers and lengths alone,
+// and one for the last, which is told what the look at their pixels has found.
 ghost use mathlib.Core.Path.{_≡_};
+ghost use mathlib.Core.Bool.{cond};
 ghost use Prim.Native.Nat.{_*_};
 ghost use Rattle.raster.specs.Refusal.{firstOf};
-ghost use Rattle.session.specs.Refusals.{isMap, openTable, fillTable, resizeTable, readTable, buildTable, placeRows, placeTable, runRows, runTable};
+ghost use Rattle.session.specs.Refusals.{isMap, openTable, fillTable, resizeTable, readTable, buildTable, placeRows, runRows};
 use crate::Session;
 use crate::state;
 
@@ -107,7 +108,7 @@ pub fn build_answer(s: Session, sheet: &[u8], map: &[i16], scratch: &[i16], engi
     0
 }
 
-fn place_refusal(s: Session, map: &[i16], x: u16, y: u16, q: u32) -> u32
+pub fn place_refusal(s: Session, map: &[i16], x: u16, y: u16, q: u32) -> u32
     ensures { λ r. ⌜ r ≡ firstOf (placeRows s (now (map .entry)) x y q) ⌝ }
 {
     if !state::is_active(s) {
@@ -128,20 +129,7 @@ fn place_refusal(s: Session, map: &[i16], x: u16, y: u16, q: u32) -> u32
     0
 }
 
-pub fn place_answer(s: Session, map: &[i16], x: u16, y: u16, q: u32) -> u32
-    ensures { λ r. ⌜ r ≡ firstOf (placeTable s (now (map .entry)) x y q) ⌝ }
-{
-    let refusal = place_refusal(s, map, x, y, q);
-    if refusal != 0 {
-        return refusal;
-    }
-    if cutter::may_stand(state::cutter_of(s, x, y, q), map) {
-        return 0;
-    }
-    34
-}
-
-fn run_refusal(s: Session, map: &[i16], d: u16, n: u16) -> u32
+pub fn run_refusal(s: Session, map: &[i16], d: u16, n: u16) -> u32
     ensures { λ r. ⌜ r ≡ firstOf (runRows s (now (map .entry)) d n) ⌝ }
 {
     if !state::is_active(s) {
@@ -162,14 +150,11 @@ fn run_refusal(s: Session, map: &[i16], d: u16, n: u16) -> u32
     0
 }
 
-pub fn run_answer(s: Session, map: &[i16], d: u16, n: u16) -> u32
-    ensures { λ r. ⌜ r ≡ firstOf (runTable s (now (map .entry)) d n) ⌝ }
+// The last row of place and run, where those before it do not hold.
+pub fn gate_answer(blocked: bool) -> u32
+    ensures { λ r. ⌜ r ≡ cond blocked 34 0 ⌝ }
 {
-    let refusal = run_refusal(s, map, d, n);
-    if refusal != 0 {
-        return refusal;
-    }
-    if cutter::is_blocked(state::own_cutter(s), map, d, n) {
+    if blocked {
         return 34;
     }
     0

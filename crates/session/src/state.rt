@@ -1,7 +1,8 @@
-// Which sessions a call could hand back, and how a session changes. Each function is the definition of its name in specs/State.
+// Which sessions are sound, and how a session changes. Each function is the definition of its name in specs/State.
 ghost use mathlib.Core.Path.{_≡_};
 ghost use Rattle.session.specs.State.{
   side,
+  closestSound,
   cutterSound,
   mapSound,
   sheetSound,
@@ -11,13 +12,13 @@ ghost use Rattle.session.specs.State.{
   openedAs,
   stale,
   builtBy,
-  cutterAs,
   downAt,
   upOf,
   cutterOf,
   ownCutter,
 };
 use crate::Session;
+use cutter::Closest;
 use cutter::Cutter;
 
 // ---- which are sound
@@ -55,10 +56,19 @@ fn is_cutter_sound(s: Session) -> bool
     (s.x == 0) & ((s.y == 0) & (s.q == 0))
 }
 
+fn is_closest_sound(s: Session) -> bool
+    ensures { λ r. ⌜ r ≡ closestSound s ⌝ }
+{
+    if s.closest.met {
+        return s.current;
+    }
+    s.closest.size == 0
+}
+
 pub fn is_sound(s: Session) -> bool
     ensures { λ r. ⌜ r ≡ sound s ⌝ }
 {
-    is_sheet_sound(s) & (is_map_sound(s) & is_cutter_sound(s))
+    is_sheet_sound(s) & (is_map_sound(s) & (is_cutter_sound(s) & is_closest_sound(s)))
 }
 
 pub fn is_active(s: Session) -> bool
@@ -69,8 +79,8 @@ pub fn is_active(s: Session) -> bool
 
 // ---- how one changes
 
-fn cutter_up(opened: bool, w: u16, h: u16, current: bool, engine: u16) -> Session
-    ensures { λ r. ⌜ r ≡ cutterUp opened w h current engine ⌝ }
+fn cutter_up(opened: bool, w: u16, h: u16, current: bool, engine: u16, closest: Closest) -> Session
+    ensures { λ r. ⌜ r ≡ cutterUp opened w h current engine closest ⌝ }
 {
     Session {
         opened,
@@ -82,13 +92,14 @@ fn cutter_up(opened: bool, w: u16, h: u16, current: bool, engine: u16) -> Sessio
         x: 0,
         y: 0,
         q: 0,
+        closest,
     }
 }
 
 pub fn opened_as(w: u16, h: u16) -> Session
     ensures { λ r. ⌜ r ≡ openedAs w h ⌝ }
 {
-    cutter_up(true, w, h, false, 0)
+    cutter_up(true, w, h, false, 0, Closest::NONE)
 }
 
 pub fn stale_of(s: Session) -> Session
@@ -100,29 +111,24 @@ pub fn stale_of(s: Session) -> Session
 pub fn built_by(s: Session, engine: u16) -> Session
     ensures { λ r. ⌜ r ≡ builtBy engine s ⌝ }
 {
-    cutter_up(true, s.width, s.height, true, engine)
+    cutter_up(true, s.width, s.height, true, engine, Closest::NONE)
 }
 
-fn cutter_as(mut s: Session, lowered: bool, x: u16, y: u16, q: u32) -> Session
-    ensures { λ r. ⌜ r ≡ cutterAs lowered x y q s ⌝ }
+pub fn down_at(mut s: Session, x: u16, y: u16, q: u32, closest: Closest) -> Session
+    ensures { λ r. ⌜ r ≡ downAt x y q closest s ⌝ }
 {
-    s.lowered = lowered;
+    s.lowered = true;
     s.x = x;
     s.y = y;
     s.q = q;
+    s.closest = closest;
     s
-}
-
-pub fn down_at(s: Session, x: u16, y: u16, q: u32) -> Session
-    ensures { λ r. ⌜ r ≡ downAt x y q s ⌝ }
-{
-    cutter_as(s, true, x, y, q)
 }
 
 pub fn up_of(s: Session) -> Session
     ensures { λ r. ⌜ r ≡ upOf s ⌝ }
 {
-    cutter_as(s, false, 0, 0, 0)
+    cutter_up(s.opened, s.width, s.height, s.current, s.engine, s.closest)
 }
 
 // ---- the cutter over the session's map

@@ -25,10 +25,32 @@
 //! take(session.lift(), &mut session);
 //! assert_eq!(answers, [0, 0, 0, 0, 0, 34, 0, 34, 0]);
 //! assert_eq!(session.map_row(&map, 0), [3, 0, 2, 0, 1, 0, 0, 0]);
+//! assert_eq!(session.closest.get(), Some(9));
 //! ```
 
+/// The closest approach: the least size, on the current map, of the labelled pixels that the cutter has met since the last placing that was
+/// done, the placed one among them. On an exact map it is their least true squared distance to copper.
+#[repr(C)]
+#[derive(Clone, Copy, Debug, PartialEq, Eq)]
+pub struct Closest {
+    /// Whether it has met one.
+    pub met: bool,
+    /// The least size; 0 if it has met none.
+    pub size: u32,
+}
+
+impl Closest {
+    /// It has met none.
+    pub const NONE: Closest = Closest { met: false, size: 0 };
+
+    /// The least size, if it has met one.
+    pub fn get(self) -> Option<u32> {
+        self.met.then_some(self.size)
+    }
+}
+
 /// What a session records. With nothing open the sides are 0, with the map not current the engine is, with the cutter up its pixel and q.
-/// One with fields that no call could hand back counts as one with nothing open.
+/// A closest approach is recorded with a current map alone, whatever its size. A session with other fields counts as one with nothing open.
 #[repr(C)]
 #[derive(Clone, Copy, Debug, PartialEq, Eq)]
 pub struct Session {
@@ -50,6 +72,8 @@ pub struct Session {
     pub y: u16,
     /// Its squared radius.
     pub q: u32,
+    /// How near it has come to copper.
+    pub closest: Closest,
 }
 
 /// What a call hands back.
@@ -163,20 +187,22 @@ impl Session {
         unsafe { ffi::abi_session_build(self, sheet.as_ptr(), sheet.len(), map, map_len, scratch.as_mut_ptr(), scratch.len(), engine) }
     }
 
-    /// Places the cutter at (x, y) with q. Refusals: 30, 12, 15, 16, 31, 34.
+    /// Places the cutter at (x, y) with q; the closest approach is that pixel's size. Refusals: 30, 12, 15, 16, 31, 34.
     pub fn place(self, map: &[i16], x: u16, y: u16, q: u32) -> Reply {
         // SAFETY: the pointer comes with the length of the slice it is from, and the function has no `requires`. It is proved to return, to
         // stay within the slice and to write nothing there.
         unsafe { ffi::abi_session_place(self, map.as_ptr(), map.len(), x, y, q) }
     }
 
-    /// Runs the lowered cutter `count` steps in one of the eight directions, clockwise from east. Refusals: 30, 12, 17, 32, 33, 34.
+    /// Runs the lowered cutter `count` steps in one of the eight directions, clockwise from east; the pixels that it comes to count for the
+    /// closest approach. Refusals: 30, 12, 17, 32, 33, 34.
     pub fn run(self, map: &[i16], direction: u16, count: u16) -> Reply {
         // SAFETY: as in `place`.
         unsafe { ffi::abi_session_run(self, map.as_ptr(), map.len(), direction, count) }
     }
 
-    /// Lifts the cutter, which is done also if it was up. A session that no call could hand back becomes a fresh one.
+    /// Lifts the cutter, which is done also if it was up; the closest approach stays. A session that counts as one with nothing open becomes a
+    /// fresh one.
     pub fn lift(self) -> Reply {
         // SAFETY: the function takes plain numbers, has no `requires` and is proved to return.
         unsafe { ffi::abi_session_lift(self) }

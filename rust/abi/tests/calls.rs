@@ -31,6 +31,9 @@ on_either!(
     m1_to_m4,
     m5_and_m6,
     m7,
+    c11,
+    c11_none,
+    c11_any_size,
     c14,
     c16,
     c22,
@@ -67,9 +70,10 @@ fn built<S: Calls>(board: &Board, engine: u16) -> (Fields, Vec<i16>) {
 }
 
 fn fresh<S: Calls>() {
-    let nothing = Fields { opened: false, width: 0, height: 0, current: false, engine: 0, lowered: false, x: 0, y: 0, q: 0 };
-    assert_eq!(S::fresh().into(), nothing);
-    assert_eq!(told(S::fresh().lift()), (0, nothing));
+    let Fields { opened, width, height, current, engine, lowered, x, y, q, met, closest } = S::fresh().into();
+    assert_eq!([opened, current, lowered, met], [false; 4]);
+    assert_eq!([u32::from(width), height.into(), engine.into(), x.into(), y.into(), q, closest], [0; 7]);
+    assert_eq!(told(S::fresh().lift()), (0, Fields::FRESH));
 }
 
 fn job<S: Calls>() {
@@ -77,8 +81,9 @@ fn job<S: Calls>() {
     assert_eq!(told(S::from(session).place(&map, 0, 0, 5)), (34, session));
     let (answer, down) = S::from(session).place(&map, 0, 0, 4);
     assert_eq!((answer, told(down.run(&map, 0, 1))), (0, (34, down.into())));
-    assert_eq!(told(down.lift()), (0, session));
-    assert_eq!(told(S::from(session).run(&map, 0, 1)), (32, session));
+    let lifted = Fields { met: true, closest: 9, ..session };
+    assert_eq!(told(down.lift()), (0, lifted));
+    assert_eq!(told(S::from(lifted).run(&map, 0, 1)), (32, lifted));
 }
 
 /// The largest q that passes at the upper left corner is M2, M3, M4.
@@ -87,7 +92,8 @@ fn m1_to_m4<S: Calls>() {
         let (session, map) = built::<S>(&boards::document_01(), engine);
         assert_eq!(map[..2], way);
         let (answer, down) = S::from(session).place(&map, 0, 0, most);
-        assert_eq!((answer, down.into()), (0, Fields { lowered: true, q: most, ..session }));
+        let closest = if engine == 3 { 9 } else { 8 };
+        assert_eq!((answer, down.into()), (0, Fields { lowered: true, q: most, met: true, closest, ..session }));
         for session in [S::from(session), down] {
             assert_eq!(told(session.place(&map, 0, 0, most + 1)), (34, session.into()));
         }
@@ -107,6 +113,74 @@ fn m7<S: Calls>() {
     assert_eq!(told(S::from(session).skeleton(&map, &mut kept)), (0, session));
     assert_eq!(told(S::from(session).rebuild(&map, &kept, &mut bare)), (0, session));
     assert_eq!((kept, bare), ([0, 0, 1, 0, 0], [0, 1, 1, 1, 0]));
+}
+
+/// Makes calls on the board of document 01 with its exact map. Each must have this answer, and leave this closest approach.
+fn assert_closest<S: Calls>(calls: &[(Call, u32, Option<u32>)]) {
+    let board = boards::document_01();
+    let (mut session, map) = built::<S>(&board, 1);
+    assert!(!session.met);
+    let mut slices = Slices { sheet: board.sheet, map, scratch: vec![0; 16], marks: vec![1; 16], out: vec![0; 16] };
+    for (at, &(call, answer, closest)) in calls.iter().enumerate() {
+        let found;
+        (found, session) = told(call.make(S::from(session), slices.lend()));
+        assert_eq!((found, session.met.then_some(session.closest)), (answer, closest), "{call:?} is call {at}");
+    }
+}
+
+/// A placing starts anew, a run counts with each of its pixels and not with its start, lift keeps, and so does every refusal. A call that
+/// changes sheet or map leaves none.
+fn c11<S: Calls>() {
+    let place = |x, y, q| Call::Place { x, y, q };
+    let run = |direction, count| Call::Run { direction, count };
+    let placed = [(place(0, 0, 1), 0, Some(8)), (run(0, 1), 0, Some(4)), (run(4, 1), 0, Some(4))];
+    let anew = [(place(0, 0, 1), 0, Some(8)), (run(0, 2), 34, Some(8)), (run(4, 1), 33, Some(8)), (run(1, 1), 0, Some(2))];
+    let kept = [(place(0, 0, 8), 34, Some(2)), (place(4, 0, 1), 16, Some(2)), (Call::Lift, 0, Some(2)), (run(0, 1), 32, Some(2))];
+    let others =
+        [(Call::Skeleton, 0, Some(2)), (Call::Rebuild, 0, Some(2)), (Call::Build { engine: 4 }, 14, Some(2)), (Call::Lift, 0, Some(2))];
+    assert_closest::<S>(&[&placed[..], &anew, &kept, &others].concat());
+    let changes = [
+        Call::Open { w: 4, h: 4 },
+        Call::Paint { x: 0, y: 0, w: 1, h: 1 },
+        Call::Erase { x: 0, y: 0, w: 1, h: 1 },
+        Call::Build { engine: 1 },
+        Call::Build { engine: 2 },
+        Call::Expand { q: 0 },
+        Call::Shrink { q: 0 },
+    ];
+    for change in changes {
+        assert_closest::<S>(&[placed[0], (change, 0, None), (Call::Lift, 0, None)]);
+        assert_closest::<S>(&[placed[0], (Call::Lift, 0, Some(8)), (change, 0, None)]);
+    }
+}
+
+/// Unlabelled pixels have no size: on a bare sheet none is met. A half marked pixel has one.
+fn c11_none<S: Calls>() {
+    for engine in 1..=3 {
+        let (session, mut map) = built::<S>(&Board::bare(4, 1), engine);
+        let (answer, down) = told(S::from(session).place(&map, 0, 0, 9));
+        assert_eq!((answer, down), (0, Fields { lowered: true, q: 9, ..session }));
+        assert_eq!(told(S::from(down).run(&map, 0, 3)), (0, Fields { x: 3, ..down }));
+        map[2..6].copy_from_slice(&[-32_768, 32_767, 0, 100]);
+        assert_eq!(told(S::from(down).run(&map, 0, 1)), (0, Fields { x: 1, met: true, closest: 2_147_418_113, ..down }));
+        // the least is that of a pixel on the way, and the last one is unlabelled
+        assert_eq!(told(S::from(down).run(&map, 0, 3)), (0, Fields { x: 3, met: true, closest: 10_000, ..down }));
+    }
+}
+
+/// With a current map any size is taken as it comes: it stays unless a smaller one is met.
+fn c11_any_size<S: Calls>() {
+    let (session, map) = built::<S>(&boards::document_01(), 1);
+    for closest in [0, 1, 5, 2_147_483_648, u32::MAX] {
+        let up = Fields { met: true, closest, ..session };
+        let down = Fields { lowered: true, ..up };
+        assert_eq!(told(S::from(up).lift()), (0, up));
+        assert_eq!(told(S::from(down).lift()), (0, up));
+        assert_eq!(told(S::from(down).run(&map, 0, 1)), (0, Fields { x: 1, closest: closest.min(4), ..down }));
+        assert_eq!(told(S::from(down).run(&[-32_768; 32], 0, 1)), (0, Fields { x: 1, ..down }));
+        assert_eq!(told(S::from(down).place(&map, 0, 0, 0)), (0, Fields { closest: 8, ..down }));
+        assert_eq!(told(S::from(up).place(&[-32_768; 32], 0, 0, 0)), (0, Fields { lowered: true, ..session }));
+    }
 }
 
 /// Copper at the rim goes by 1 and stays by 0. For expand and the gate there is nothing beyond the rim.
@@ -229,6 +303,13 @@ fn no_call_could_hand_back<S: Calls>() {
         Fields { width: 4, height: 4, ..Fields::FRESH },
         Fields { lowered: true, ..Fields::FRESH },
         Fields { opened: true, ..Fields::FRESH },
+        Fields { met: true, ..stale },
+        Fields { met: true, closest: 8, ..stale },
+        Fields { closest: 8, ..stale },
+        Fields { closest: 8, ..session },
+        Fields { met: false, ..down },
+        Fields { met: true, closest: 8, ..Fields::FRESH },
+        Fields { closest: u32::MAX, ..Fields::FRESH },
     ];
     for fields in wrong {
         assert!(fields.closed(), "{fields:?}");

@@ -12,7 +12,7 @@ use: bench [ROUNDS [CALL]]      times the calls of the library, or one alone, be
      bench --stack              measures how much of the stack each call takes
      bench -h | --help          these lines
 ROUNDS is how often all boards are gone through, from 1; 10 if it is not given.
-CALL is exact, 8SED, 4SED, expand, shrink, skeleton or rebuild.
+CALL is exact, 8SED, 4SED, expand, shrink, skeleton, rebuild or run.
 ";
 
 /// What is to be timed, in how many rounds, from 1, or to be measured.

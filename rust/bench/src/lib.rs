@@ -158,7 +158,8 @@ mod tests {
             let mut slices = any_slices(board, random);
             let engine = [fields.engine, random.below(5) as u16][random.below(2) as usize];
             let q = [random.below(30), 4_194_304 + random.below(2)][random.below(2) as usize] as u32;
-            for call in [Call::Build { engine }, Call::Skeleton, Call::Rebuild, Call::Expand { q }, Call::Shrink { q }] {
+            let run = Call::Run { direction: random.below(9) as u16, count: random.below(4) as u16 };
+            for call in [run, Call::Build { engine }, Call::Skeleton, Call::Rebuild, Call::Expand { q }, Call::Shrink { q }] {
                 let mut expected = slices.clone();
                 let found = plain_call(call, fields, &mut slices);
                 assert_eq!(found, call.make(fields, expected.lend()), "{call:?} with {fields:?}: {board:?}");
@@ -177,21 +178,27 @@ mod tests {
             Call::Shrink { q } => plain_calls::shrink(session, sheet, map, scratch, q),
             Call::Skeleton => plain_calls::skeleton(session, map, out),
             Call::Rebuild => plain_calls::rebuild(session, map, marks, out),
+            Call::Run { direction, count } => plain_calls::run(session, map, direction, count),
             _ => panic!("{call:?} is not timed"),
         };
         (reply.answer, Library(reply.session).into())
     }
 
-    /// A session with the board's sheet open, and now and then a field that may not be so.
+    /// A session with the board's sheet open and the cutter down more often than not, and now and then a field that may not be so.
     fn any_session(board: &Board, random: &mut Random) -> Fields {
         let (width, height) = board.sides();
         let engine = random.below(5) as u16;
         let mut fields = Fields { opened: true, width, height, current: engine != 0, engine, ..Fields::FRESH };
+        if engine != 0 && random.below(3) > 0 {
+            let (x, y) = (random.below(width.into()) as u16, random.below(height.into()) as u16);
+            fields = Fields { lowered: true, x, y, q: random.below(9) as u32, met: true, closest: random.below(9_999) as u32, ..fields };
+        }
         match random.below(8) {
             0 => fields.opened = false,
             1 => fields.width = [0, 2_049][random.below(2) as usize],
             2 => fields.x = 1,
             3 => fields.lowered = true,
+            4 => fields.met ^= true,
             _ => {}
         }
         fields

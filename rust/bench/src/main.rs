@@ -32,10 +32,12 @@ struct Slices<'a> {
 type Call = fn(&mut Slices) -> Reply;
 
 /// What is timed: a call of the library, the same in plain Rust, and a tuned variant of that if there is one. What they need besides the
-/// sheet is made ready before, off the clock. `lent` is how many bytes the call is lent, a pixel and a column.
+/// sheet is made ready before, off the clock. `lent` is how many bytes the call is lent, a pixel and a column; `pixels` how many of a board
+/// it looks at.
 struct What {
     name: &'static str,
     lent: [usize; 2],
+    pixels: fn(&Board) -> usize,
     ready: fn(&mut Slices),
     library: Call,
     plain: Call,
@@ -56,10 +58,40 @@ fn skeleton_of(on: &mut Slices) {
     plain_calls::skeleton(on.session, on.map, on.marks);
 }
 
-const WHATS: [What; 7] = [
+/// How many runs are timed together, since one takes little time.
+const RUNS: usize = 100;
+
+/// The exact map of the sheet with its first row bare, so that a cutter can go along it on every board.
+fn bare_row(on: &mut Slices) {
+    on.sheet[..on.session.width.into()].fill(0);
+    map_of(on);
+}
+
+/// The same, with the cutter down where the row starts.
+fn lowered(on: &mut Slices) {
+    bare_row(on);
+    on.session = on.session.place(on.map, 0, 0, 0).session;
+}
+
+/// Runs along that row, each from its start.
+fn runs(on: &mut Slices, run: fn(Session, &[i16], u16, u16) -> Reply) -> Reply {
+    let count = on.session.width - 1;
+    for _ in 1..RUNS {
+        std::hint::black_box(run(std::hint::black_box(on.session), on.map, 0, count));
+    }
+    run(on.session, on.map, 0, count)
+}
+
+/// A call that looks at every pixel.
+fn whole(board: &Board) -> usize {
+    board.sheet.len()
+}
+
+const WHATS: [What; 8] = [
     What {
         name: "exact",
         lent: [5, 8],
+        pixels: whole,
         ready: |_| {},
         library: |on| on.session.build(on.sheet, on.map, on.scratch, 1),
         plain: |on| plain_calls::build(on.session, on.sheet, on.map, on.scratch, 1, &PLAIN),
@@ -68,6 +100,7 @@ const WHATS: [What; 7] = [
     What {
         name: "8SED",
         lent: [5, 0],
+        pixels: whole,
         ready: |_| {},
         library: |on| on.session.build(on.sheet, on.map, on.scratch, 2),
         plain: |on| plain_calls::build(on.session, on.sheet, on.map, on.scratch, 2, &PLAIN),
@@ -76,6 +109,7 @@ const WHATS: [What; 7] = [
     What {
         name: "4SED",
         lent: [5, 0],
+        pixels: whole,
         ready: |_| {},
         library: |on| on.session.build(on.sheet, on.map, on.scratch, 3),
         plain: |on| plain_calls::build(on.session, on.sheet, on.map, on.scratch, 3, &PLAIN),
@@ -84,6 +118,7 @@ const WHATS: [What; 7] = [
     What {
         name: "expand",
         lent: [5, 8],
+        pixels: whole,
         ready: |_| {},
         library: |on| on.session.expand(on.sheet, on.map, on.scratch, Q),
         plain: |on| plain_calls::expand(on.session, on.sheet, on.map, on.scratch, Q),
@@ -92,6 +127,7 @@ const WHATS: [What; 7] = [
     What {
         name: "shrink",
         lent: [5, 8],
+        pixels: whole,
         ready: |_| {},
         library: |on| on.session.shrink(on.sheet, on.map, on.scratch, Q),
         plain: |on| plain_calls::shrink(on.session, on.sheet, on.map, on.scratch, Q),
@@ -100,6 +136,7 @@ const WHATS: [What; 7] = [
     What {
         name: "skeleton",
         lent: [5, 0],
+        pixels: whole,
         ready: map_of,
         library: |on| on.session.skeleton(on.map, on.out),
         plain: |on| plain_calls::skeleton(on.session, on.map, on.out),
@@ -108,9 +145,19 @@ const WHATS: [What; 7] = [
     What {
         name: "rebuild",
         lent: [6, 0],
+        pixels: whole,
         ready: skeleton_of,
         library: |on| on.session.rebuild(on.map, on.marks, on.out),
         plain: |on| plain_calls::rebuild(on.session, on.map, on.marks, on.out),
+        fused: None,
+    },
+    What {
+        name: "run",
+        lent: [4, 0],
+        pixels: |board| RUNS * (board.w - 1),
+        ready: lowered,
+        library: |on| runs(on, Session::run),
+        plain: |on| runs(on, plain_calls::run),
         fused: None,
     },
 ];
@@ -163,6 +210,7 @@ fn deep(frames: usize, call: Call, on: &mut Slices) -> Reply {
 struct Line {
     what: &'static str,
     lent: [usize; 2],
+    pixels: usize,
     name: &'static str,
     board: Board,
     ready: fn(&mut Slices),
@@ -174,7 +222,8 @@ impl Line {
     fn new(what: &What, name: &'static str, side: usize) -> Self {
         let calls: Vec<Call> = [Some(what.library), Some(what.plain), what.fused].into_iter().flatten().collect();
         let best = vec![Duration::MAX; calls.len()];
-        Line { what: what.name, lent: what.lent, name, board: boards::benchmark(name, side), ready: what.ready, calls, best }
+        let board = boards::benchmark(name, side);
+        Line { what: what.name, lent: what.lent, pixels: (what.pixels)(&board), name, board, ready: what.ready, calls, best }
     }
 
     /// Runs each contender once, another first in each turn. The call must be done, and they must write the same.
@@ -203,7 +252,7 @@ impl Line {
 
     /// The shortest time of a contender in nanoseconds a pixel.
     fn nanoseconds(&self, which: usize) -> Option<f64> {
-        Some(self.best.get(which)?.as_nanos() as f64 / self.board.sheet.len() as f64)
+        Some(self.best.get(which)?.as_nanos() as f64 / self.pixels as f64)
     }
 }
 

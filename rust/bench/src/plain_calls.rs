@@ -1,7 +1,7 @@
 //! The calls of the session in plain safe Rust: what the library tests before its work, in the library's order, and then the work.
 
 use crate::{fused, plain, plain_exact, plain_resize, plain_skeleton};
-use abi::session::{Reply, Session};
+use abi::session::{Closest, Reply, Session};
 
 /// The functions that write the maps.
 pub struct Engines {
@@ -34,7 +34,8 @@ fn is_active(s: &Session) -> bool {
     let map = if s.current { (1..=3).contains(&s.engine) } else { s.engine == 0 };
     let down = s.current && s.x < s.width && s.y < s.height && s.q <= 4_194_304;
     let cutter = if s.lowered { down } else { (s.x, s.y, s.q) == (0, 0, 0) };
-    s.opened && side(s.width) && side(s.height) && map && cutter
+    let closest = if s.closest.met { s.current } else { s.closest.size == 0 };
+    s.opened && side(s.width) && side(s.height) && map && cutter && closest
 }
 
 /// The sides of the open sheet.
@@ -42,9 +43,9 @@ fn sides(s: &Session) -> (usize, usize) {
     (s.width.into(), s.height.into())
 }
 
-/// The session with its sheet alone: the map is not current, the cutter up.
+/// The session with its sheet alone: the map is not current, the cutter up, no closest approach.
 fn stale(s: Session) -> Session {
-    Session { current: false, engine: 0, lowered: false, x: 0, y: 0, q: 0, ..s }
+    Session { current: false, engine: 0, lowered: false, x: 0, y: 0, q: 0, closest: Closest::NONE, ..s }
 }
 
 /// Builds the map.
@@ -108,6 +109,59 @@ pub fn rebuild(s: Session, map: &[i16], marks: &[u8], out: &mut [u8]) -> Reply {
         plain_skeleton::rebuild(map, marks, out, w, h);
     }
     Reply { answer, session: s }
+}
+
+/// Steps to the right and down, clockwise from east.
+const STEPS: [(i32, i32); 8] = [(1, 0), (1, 1), (0, 1), (-1, 1), (-1, 0), (-1, -1), (0, -1), (1, -1)];
+
+/// Whether a labelled pixel of this size passes a cutter of q.
+fn passes(engine: u16, size: u32, q: u32) -> bool {
+    let (size, q) = (u64::from(size), u64::from(q));
+    match engine {
+        1 => q < size,
+        2 => 169 * q < 144 * size,
+        _ => 2 * q < size,
+    }
+}
+
+/// Runs the lowered cutter.
+pub fn run(s: Session, map: &[i16], direction: u16, count: u16) -> Reply {
+    let (w, h) = sides(&s);
+    if !is_active(&s) {
+        return refused(s, 30);
+    }
+    let (map, rest) = map.as_chunks::<2>();
+    if map.len() != w * h || !rest.is_empty() {
+        return refused(s, 12);
+    }
+    if direction > 7 || !(1..=2_047).contains(&count) {
+        return refused(s, 17);
+    }
+    if !s.lowered {
+        return refused(s, 32);
+    }
+    let (right, down) = STEPS[usize::from(direction)];
+    let after = |steps: u16| (i32::from(s.x) + right * i32::from(steps), i32::from(s.y) + down * i32::from(steps));
+    let (x, y) = after(count);
+    if !(0..w as i32).contains(&x) || !(0..h as i32).contains(&y) {
+        return refused(s, 33);
+    }
+    let (mut blocked, mut closest) = (false, s.closest);
+    for step in 1..=count {
+        let (x, y) = after(step);
+        let [dx, dy] = map[y as usize * w + x as usize];
+        if [dx, dy] != [i16::MIN; 2] {
+            let size = u32::from(dx.unsigned_abs()).pow(2) + u32::from(dy.unsigned_abs()).pow(2);
+            blocked |= !passes(s.engine, size, s.q);
+            if !closest.met || size < closest.size {
+                closest = Closest { met: true, size };
+            }
+        }
+    }
+    if blocked {
+        return refused(s, 34);
+    }
+    done(Session { x: x as u16, y: y as u16, closest, ..s })
 }
 
 /// The answer of skeleton and rebuild; `wrong` says that another lent slice has not a byte a pixel.

@@ -3,7 +3,7 @@
 //! The stack below a function is painted with a pattern, and then a call is made there. How far down the pattern is gone is read in
 //! `/proc/self/mem`, Linux's file of a process's own memory, for no safe code can look at the part of a stack that nobody holds.
 
-use crate::{map_of, Call, Memory, Slices, WHATS};
+use crate::{bare_row, lowered, map_of, Call, Memory, Slices, WHATS};
 use abi::session::Reply;
 use model::boards;
 use std::fs::File;
@@ -29,7 +29,7 @@ const ROOM: usize = 1 << 14;
 /// A call by its name, and what it needs besides the sheet.
 type Measured = (&'static str, fn(&mut Slices), Call);
 
-/// The calls that are not timed.
+/// The calls that are not timed, and a single run, since many are timed together.
 const OTHERS: [Measured; 7] = [
     ("open", |_| {}, |on| on.session.open(on.sheet, SIDE, SIDE)),
     ("paint", |_| {}, |on| on.session.paint(on.sheet, 0, 0, SIDE, SIDE)),
@@ -42,18 +42,6 @@ const OTHERS: [Measured; 7] = [
         Reply { answer: u32::from(row.is_empty()), session: on.session }
     }),
 ];
-
-/// The exact map of the sheet with its first row bare, so that a cutter can go along it on every board.
-fn bare_row(on: &mut Slices) {
-    on.sheet[..SIDE.into()].fill(0);
-    map_of(on);
-}
-
-/// The same, with the cutter down where the row starts.
-fn lowered(on: &mut Slices) {
-    bare_row(on);
-    on.session = on.session.place(on.map, 0, 0, 0).session;
-}
 
 /// The table.
 pub fn table() -> io::Result<String> {
@@ -68,7 +56,8 @@ pub fn table() -> io::Result<String> {
 
 /// The most bytes of the stack that each call takes on one of the benchmark's boards.
 fn measure() -> io::Result<Vec<(&'static str, usize)>> {
-    let calls: Vec<Measured> = WHATS.map(|what| (what.name, what.ready, what.library)).into_iter().chain(OTHERS).collect();
+    let timed = WHATS.iter().filter(|what| what.name != "run").map(|what| (what.name, what.ready, what.library));
+    let calls: Vec<Measured> = timed.chain(OTHERS).collect();
     let mut lines: Vec<_> = calls.iter().map(|&(name, ..)| (name, 0)).collect();
     let mut memory = Memory::new(SIDE.into());
     for name in boards::BENCHMARK {

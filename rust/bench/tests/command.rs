@@ -23,7 +23,7 @@ fn refused_words() {
         let rounds = words[words.len() - 1];
         assert_stops(&mut bench(words), 2, &format!("ROUNDS is a number from 1 to {}, not `{rounds}`\nuse: ", usize::MAX));
     }
-    let calls = "exact, 8SED, 4SED, expand, shrink, skeleton, rebuild";
+    let calls = "exact, 8SED, 4SED, expand, shrink, skeleton, rebuild, run";
     assert_stops(&mut bench(&["1", "saw"]), 2, &format!("CALL is one of {calls}, not `saw`\nuse: "));
     for words in [["1", "skeleton", "exact"], ["--peers", "5", "exact"]] {
         assert_stops(&mut bench(&words), 2, "`exact` is one word too many\nuse: ");

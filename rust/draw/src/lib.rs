@@ -3,7 +3,8 @@
 //! The records run through the proved library, lent slices as `mill` lends them. Each build that is done starts a picture: the copper, the
 //! map as shades by size, the skeleton of an exact map as dots, and on it each place and run up to the next change of the sheet, with its
 //! record number: green where it was done, red where the gate refused it, with a cross at the pixel that failed. The disk around a place has
-//! the cutter's radius. What is refused otherwise stands in words below.
+//! the cutter's radius. Below stands in words how near to copper each placing that was done has come with its runs, in pixels by the map, and
+//! what is refused otherwise.
 
 mod picture;
 
@@ -33,6 +34,8 @@ pub(crate) struct Board {
     kept: Option<Vec<u8>>,
     /// The places and runs on it.
     tools: Vec<Tool>,
+    /// Each placing that was done: the number of its record, and the closest approach since then as a size.
+    approaches: Vec<(usize, Option<u32>)>,
     /// What was refused otherwise than by the gate.
     notes: Vec<String>,
 }
@@ -95,7 +98,10 @@ impl Mill {
         match (record.kind(), answer) {
             (4, 0) => self.add(words, true),
             (1..=3 | 8 | 9, 0) => self.changed = true,
-            (5 | 6, 0 | 34) => self.mark(number, record, before, answer),
+            (5 | 6, 0 | 34) => {
+                self.mark(number, record, before, answer);
+                self.approach(number, record, answer);
+            }
             (_, 0) => {}
             _ => self.boards.last_mut().map_or(&mut self.early, |board| &mut board.notes).push(words),
         }
@@ -137,6 +143,7 @@ impl Mill {
             map: mapped.then_some(map),
             kept: skeleton.then_some(kept),
             tools: Vec::new(),
+            approaches: Vec::new(),
             notes: std::mem::take(&mut self.early),
         });
         self.changed = false;
@@ -157,6 +164,17 @@ impl Mill {
         let tool = Tool { record: number, from, step, count, q, failed };
         if let Some(board) = self.boards.last_mut() {
             board.tools.push(tool);
+        }
+    }
+
+    /// Notes the closest approach after a place or run.
+    fn approach(&mut self, number: usize, record: &Record, answer: u32) {
+        let Some(board) = self.boards.last_mut() else { return };
+        if record.kind() == 5 && answer == 0 {
+            board.approaches.push((number, None));
+        }
+        if let Some((_, closest)) = board.approaches.last_mut() {
+            *closest = self.session.closest.get();
         }
     }
 }

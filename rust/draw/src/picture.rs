@@ -3,8 +3,9 @@
 use crate::{Board, Tool};
 use std::fmt::Write;
 
-/// Pixels of the picture to a pixel of a sheet, and the space around a sheet.
+/// Pixels of the picture to a pixel of a sheet, to a line of words, and the space around a sheet.
 const CELL: usize = 14;
+const LINE: usize = 18;
 const SPACE: usize = 28;
 
 /// The colours of copper, and of a place or run that was done or refused.
@@ -29,12 +30,12 @@ pub(crate) fn svg(boards: &[Board]) -> String {
     out + "</svg>\n"
 }
 
-/// The height of a board with its title and notes.
+/// The height of a board with its title and the words below.
 fn tall(board: &Board) -> usize {
-    board.h * CELL + 18 * board.notes.len() + 2 * SPACE
+    board.h * CELL + LINE * (board.approaches.len() + board.notes.len()) + 2 * SPACE
 }
 
-/// A board with its title and notes, from `top` down.
+/// A board with its title and the words below, from `top` down.
 fn draw(out: &mut String, board: &Board, top: usize) -> std::fmt::Result {
     writeln!(out, "<text x=\"{SPACE}\" y=\"{}\">{}, {} × {}</text>", top - 8, board.title, board.w, board.h)?;
     writeln!(out, "<g transform=\"translate({SPACE} {top})\">")?;
@@ -45,10 +46,20 @@ fn draw(out: &mut String, board: &Board, top: usize) -> std::fmt::Result {
     for tool in &board.tools {
         tool_path(out, tool)?;
     }
-    for (line, note) in board.notes.iter().enumerate() {
-        writeln!(out, "<text x=\"0\" y=\"{}\" fill=\"{REFUSED}\">{note}</text>", board.h * CELL + 18 * (line + 1))?;
+    let approaches = board.approaches.iter().map(|&approach| (DONE, words(approach)));
+    let notes = board.notes.iter().map(|note| (REFUSED, note.clone()));
+    for (line, (colour, text)) in approaches.chain(notes).enumerate() {
+        writeln!(out, "<text x=\"0\" y=\"{}\" fill=\"{colour}\">{text}</text>", board.h * CELL + LINE * (line + 1))?;
     }
     writeln!(out, "</g>")
+}
+
+/// The closest approach of a placing in words, as a number of pixels. It is rounded down, so that no cutter seems farther off than it was.
+fn words((record, closest): (usize, Option<u32>)) -> String {
+    match closest.map(|size| (10_000 * u64::from(size)).isqrt()) {
+        Some(hundredths) => format!("{record}: closest approach {}.{:02} pixels", hundredths / 100, hundredths % 100),
+        None => format!("{record}: closest approach none: there is no copper"),
+    }
 }
 
 /// The sheet's pixels, each with its place and size as a title.

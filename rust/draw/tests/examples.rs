@@ -26,6 +26,10 @@ fn milled() {
     assert_eq!(picture.matches("gives 0, 32 × 24").count(), 2);
     // records 14, 18 and 20
     assert_eq!(crosses(&picture), 3);
+    for words in ["6: closest approach 3.00 pixels", "12: closest approach 3.00 pixels", "19: closest approach 3.00 pixels"] {
+        assert!(picture.contains(&format!(">{words}<")), "{words}");
+    }
+    assert_eq!(picture.matches("closest approach").count(), 3);
 }
 
 #[test]
@@ -33,6 +37,8 @@ fn arrow_head() {
     let picture = drawn("arrow_head");
     assert_eq!(crosses(&picture), 3);
     assert!(picture.contains("(13, 13) size 170") && picture.contains("(13, 13) size 169"));
+    // the root of 170 is a little above 13.03
+    assert!(picture.contains(">8: closest approach 13.03 pixels<") && picture.contains(">12: closest approach 13.00 pixels<"));
 }
 
 #[test]
@@ -41,6 +47,16 @@ fn panel() {
     // records 5, 6, 9 and 16
     assert_eq!(crosses(&picture), 4);
     assert!(picture.contains("(0, 10) size 4") && picture.contains("(0, 0) size 8"));
+}
+
+/// Each placing that is done has its own closest approach, to which its runs count; what is refused counts for nothing.
+#[test]
+fn closest_approaches() {
+    let job = "open 9 1\nbuild 2\nplace 0 0 1\nrun east 8\npaint 8 0 1 1\nbuild 2\nplace 0 0 1\nplace 1 0 1\nrun east 2\nrun east 5\nplace 8 0 0\nrun west 1\n";
+    let picture = draw::picture(&job::parse(job).unwrap()).unwrap();
+    let words: Vec<&str> = picture.split('>').filter(|text| text.contains("closest")).map(|text| text.split('<').next().unwrap()).collect();
+    let none = "3: closest approach none: there is no copper";
+    assert_eq!(words, [none, "7: closest approach 8.00 pixels", "8: closest approach 5.00 pixels"]);
 }
 
 /// What is refused before there is a sheet stands in words.

@@ -42,6 +42,10 @@ pub struct Fields {
     pub y: u16,
     /// Its squared radius.
     pub q: u32,
+    /// Whether a closest approach is recorded.
+    pub met: bool,
+    /// The closest approach, 0 if none is recorded.
+    pub closest: u32,
 }
 
 /// An open sheet, with its map if that is current.
@@ -52,11 +56,12 @@ struct Open {
     map: Option<Current>,
 }
 
-/// A current map, with the cutter if that is down.
+/// A current map, with the cutter if that is down, and its closest approach if there is one.
 #[derive(Clone, Copy, Debug, PartialEq, Eq)]
 struct Current {
     engine: Engine,
     cutter: Option<Cutter>,
+    closest: Option<u32>,
 }
 
 #[derive(Clone, Copy, Debug, PartialEq, Eq)]
@@ -144,9 +149,25 @@ impl Open {
         Open { map: None, ..self }
     }
 
-    /// The same sheet and map with another cutter.
-    fn with(self, cutter: Option<Cutter>) -> Open {
-        Open { map: self.map.map(|map| Current { cutter, ..map }), ..self }
+    fn closest(self) -> Option<u32> {
+        self.map.and_then(|map| map.closest)
+    }
+
+    /// The same sheet and map with another cutter and closest approach.
+    fn with(self, cutter: Option<Cutter>, closest: Option<u32>) -> Open {
+        Open { map: self.map.map(|map| Current { cutter, closest, ..map }), ..self }
+    }
+
+    /// The vector at a pixel of the sheet, by a map of the right length.
+    fn way(self, map: &[i16], (x, y): (i64, i64)) -> [i16; 2] {
+        let at = 2 * (y as usize * usize::from(self.w) + x as usize);
+        [map[at], map[at + 1]]
+    }
+
+    /// The least size of the labelled ones among pixels of the sheet.
+    fn least(self, map: &[i16], pixels: &[(i64, i64)]) -> Option<u32> {
+        let labelled = pixels.iter().map(|&pixel| self.way(map, pixel)).filter(|&way| way != UNLABELLED);
+        labelled.map(|way| size(way) as u32).min()
     }
 
     /// Whether the gate fails at a pixel for q. No gate fails off the sheet, on a map of a wrong length or on one that is not current.
@@ -155,14 +176,14 @@ impl Open {
         if !self.holds(x, y) || map.len() != 2 * self.pixels() {
             return false;
         }
-        let at = 2 * (y as usize * usize::from(self.w) + x as usize);
-        !engine.passes([map[at], map[at + 1]], q)
+        !engine.passes(self.way(map, (x, y)), q)
     }
 }
 
 impl Fields {
     /// Nothing open, map not current, cutter up.
-    pub const FRESH: Fields = Fields { opened: false, width: 0, height: 0, current: false, engine: 0, lowered: false, x: 0, y: 0, q: 0 };
+    pub const FRESH: Fields =
+        Fields { opened: false, width: 0, height: 0, current: false, engine: 0, lowered: false, x: 0, y: 0, q: 0, met: false, closest: 0 };
 
     /// How an open sheet is recorded, or that nothing is open.
     fn of(open: Option<Open>) -> Fields {
@@ -178,14 +199,17 @@ impl Fields {
             x,
             y,
             q,
+            met: open.closest().is_some(),
+            closest: open.closest().unwrap_or(0),
         }
     }
 
-    /// What is open. Nothing is in a session that no call could hand back: one outside the limits, or one that holds anything beyond what
-    /// is recorded of the sheet, map and cutter that it names.
+    /// What is open. Nothing is in a session that counts as such: one outside the limits, or one that holds anything beyond what
+    /// is recorded of the sheet, map, cutter and closest approach that it names.
     fn read(self) -> Option<Open> {
         let cutter = self.lowered.then_some(Cutter { x: self.x, y: self.y, q: self.q });
-        let map = Engine::numbered(self.engine).filter(|_| self.current).map(|engine| Current { engine, cutter });
+        let closest = self.met.then_some(self.closest);
+        let map = Engine::numbered(self.engine).filter(|_| self.current).map(|engine| Current { engine, cutter, closest });
         let open = Open { w: self.width, h: self.height, map };
         (open.within_limits() && Fields::of(Some(open)) == self).then_some(open)
     }
@@ -293,7 +317,7 @@ impl Calls for Fields {
         if engine == Engine::Exact {
             scratch[..need].fill(0);
         }
-        (0, Fields::of(Some(Open { map: Some(Current { engine, cutter: None }), ..open })))
+        (0, Fields::of(Some(Open { map: Some(Current { engine, cutter: None, closest: None }), ..open })))
     }
 
     fn place(self, map: &[i16], x: u16, y: u16, q: u32) -> (u32, Fields) {
@@ -309,7 +333,7 @@ impl Calls for Fields {
         if answer != 0 {
             return (answer, self);
         }
-        (0, Fields::of(Some(open.with(Some(Cutter { x, y, q })))))
+        (0, Fields::of(Some(open.with(Some(Cutter { x, y, q }), open.least(map, &[pixel])))))
     }
 
     fn run(self, map: &[i16], direction: u16, count: u16) -> (u32, Fields) {
@@ -332,11 +356,12 @@ impl Calls for Fields {
             (34, path.iter().any(|&pixel| open.fails(map, pixel, q))),
         ]);
         let Some(&(x, y)) = path.last().filter(|_| answer == 0) else { return (answer, self) };
-        (0, Fields::of(Some(open.with(Some(Cutter { x: x as u16, y: y as u16, q })))))
+        let closest = open.least(map, &path).into_iter().chain(open.closest()).min();
+        (0, Fields::of(Some(open.with(Some(Cutter { x: x as u16, y: y as u16, q }), closest))))
     }
 
     fn lift(self) -> (u32, Fields) {
-        (0, Fields::of(self.read().map(|open| open.with(None))))
+        (0, Fields::of(self.read().map(|open| open.with(None, open.closest()))))
     }
 
     fn expand(self, sheet: &mut [u8], map: &mut [i16], scratch: &mut [i16], q: u32) -> (u32, Fields) {

@@ -1,15 +1,16 @@
-//! The plain board of document 01, and what the lists of calls promise of it. It is fed each call's numbers and its answer alone, and all
-//! distances are by brute force.
+//! The plain board of document 01 with the pixels visited of document 02, and what the lists of calls promise of it. It is fed each call's
+//! numbers and its answer alone, and all distances are by brute force.
 
 use crate::calls::Call;
 use model::session::Fields;
+use model::skeleton::size;
 use std::collections::BTreeSet;
 use std::fmt::Debug;
 
 /// A pixel, which may be off the sheet.
 type Pixel = (i64, i64);
 
-/// Sides, copper, engine and the lowered cutter.
+/// Sides, copper, engine, the lowered cutter, and the pixels visited since the last placing that was done.
 #[derive(Debug, Default)]
 pub struct Board {
     w: u16,
@@ -17,6 +18,17 @@ pub struct Board {
     copper: BTreeSet<Pixel>,
     engine: u16,
     cutter: Option<(Pixel, u32)>,
+    visited: BTreeSet<Pixel>,
+}
+
+/// What the list holds after a call.
+pub struct Left<'a> {
+    /// The session.
+    pub session: &'a Fields,
+    /// The sheet.
+    pub sheet: &'a [u8],
+    /// The map.
+    pub map: &'a [i16],
 }
 
 fn apart((x, y): Pixel, (column, row): Pixel) -> u64 {
@@ -68,7 +80,14 @@ impl Board {
                 self.copper.remove(&pixel);
             }),
             Call::Build { engine } => self.engine = engine,
-            Call::Place { .. } | Call::Run { .. } => self.cutter = self.tested(call).pop(),
+            Call::Place { .. } | Call::Run { .. } => {
+                let tested = self.tested(call);
+                if matches!(call, Call::Place { .. }) {
+                    self.visited.clear();
+                }
+                self.visited.extend(tested.iter().map(|&(pixel, _)| pixel));
+                self.cutter = tested.last().copied();
+            }
             Call::Lift => self.cutter = None,
             Call::Expand { q } => self.copper = self.pixels().filter(|&pixel| self.near(pixel, q.into())).collect(),
             Call::Shrink { q } => {
@@ -77,17 +96,19 @@ impl Board {
             }
             Call::Skeleton | Call::Rebuild => {}
         }
-        match call {
-            Call::Paint { .. } | Call::Erase { .. } | Call::Expand { .. } | Call::Shrink { .. } => (self.engine, self.cutter) = (0, None),
-            Call::Build { .. } => self.cutter = None,
-            _ => {}
+        if let Call::Paint { .. } | Call::Erase { .. } | Call::Expand { .. } | Call::Shrink { .. } = call {
+            self.engine = 0;
+        }
+        if let Call::Paint { .. } | Call::Erase { .. } | Call::Expand { .. } | Call::Shrink { .. } | Call::Build { .. } = call {
+            self.cutter = None;
+            self.visited.clear();
         }
     }
 
     /// Feeds the board a call and its answer, and asserts what is promised of every call of a list: a cutter that is brought down or run
     /// comes to no pixel with copper within q; one that is turned away with 34 had a pixel with copper within q, or on the quick maps
-    /// within the engine's fraction of it; session and sheet agree with the board.
-    pub fn feed(&mut self, call: Call, answer: u32, session: &Fields, sheet: &[u8], about: &impl Debug) {
+    /// within the engine's fraction of it; session and sheet agree with the board; the closest approach is recorded.
+    pub fn feed(&mut self, call: Call, answer: u32, left: &Left, about: &impl Debug) {
         let tested = self.tested(call);
         let on_sheet = |(x, y): Pixel| (0..self.w.into()).contains(&x) && (0..self.h.into()).contains(&y);
         let all_on_sheet = tested.iter().all(|&(pixel, _)| on_sheet(pixel));
@@ -109,7 +130,24 @@ impl Board {
             }
             _ => {}
         }
-        self.agrees(session, sheet, about);
+        self.agrees(left.session, left.sheet, about);
+        self.approached(left, about);
+    }
+
+    /// Asserts that the closest approach is the least size on the map of the pixels visited, and on an exact map the least squared distance
+    /// from one of them to copper.
+    fn approached(&self, left: &Left, about: &impl Debug) {
+        let recorded = left.session.met.then_some(u64::from(left.session.closest));
+        let way = |&(x, y): &Pixel| {
+            let at = 2 * (y * i64::from(self.w) + x) as usize;
+            [left.map[at], left.map[at + 1]]
+        };
+        let sizes = self.visited.iter().map(way).filter(|&way| way != [i16::MIN; 2]).map(size);
+        assert_eq!(recorded, sizes.min(), "the closest approach: {about:?}");
+        if self.engine == 1 {
+            let distances = self.visited.iter().flat_map(|&pixel| self.copper.iter().map(move |&copper| apart(copper, pixel)));
+            assert_eq!(recorded, distances.min(), "the closest approach to copper: {about:?}");
+        }
     }
 
     /// Asserts that session and sheet agree with the board, and that a lowered cutter stands clear of copper.

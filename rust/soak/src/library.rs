@@ -1,6 +1,6 @@
 //! The library's session behind the trait of calls.
 
-use abi::session::{Reply, Session};
+use abi::session::{Closest, Reply, Session};
 use model::calls::Calls;
 use model::session::Fields;
 
@@ -10,15 +10,15 @@ pub struct Library(pub Session);
 
 impl From<Fields> for Library {
     fn from(fields: Fields) -> Self {
-        let Fields { opened, width, height, current, engine, lowered, x, y, q } = fields;
-        Library(Session { opened, width, height, current, engine, lowered, x, y, q })
+        let Fields { opened, width, height, current, engine, lowered, x, y, q, met, closest: size } = fields;
+        Library(Session { opened, width, height, current, engine, lowered, x, y, q, closest: Closest { met, size } })
     }
 }
 
 impl From<Library> for Fields {
     fn from(Library(session): Library) -> Self {
-        let Session { opened, width, height, current, engine, lowered, x, y, q } = session;
-        Fields { opened, width, height, current, engine, lowered, x, y, q }
+        let Session { opened, width, height, current, engine, lowered, x, y, q, closest: Closest { met, size } } = session;
+        Fields { opened, width, height, current, engine, lowered, x, y, q, met, closest: size }
     }
 }
 

@@ -1,6 +1,6 @@
 //! Lists of calls, each call made of a session and checked.
 
-use crate::board::Board;
+use crate::board::{Board, Left};
 use crate::calls::{Call, Slices};
 use model::calls::Calls;
 use model::random::Random;
@@ -132,8 +132,8 @@ impl<S: Calls> List<S> {
         if self.check != Check::Model {
             let mut board = std::mem::take(&mut self.board);
             let story = Story { list: self, call, slices: &slices };
-            let sheet = if own || answer == 0 { &after.sheet } else { &self.sheet };
-            board.feed(call, answer, &session.into(), sheet, &story);
+            let (sheet, map) = if own || answer == 0 { (&after.sheet, &after.map) } else { (&self.sheet, &self.map) };
+            board.feed(call, answer, &Left { session: &session.into(), sheet, map }, &story);
             self.board = board;
         }
         if own || answer == 0 {

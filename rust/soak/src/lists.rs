@@ -265,7 +265,8 @@ fn tamper_session(session: &mut Fields, random: &mut Random) {
         let short = |session: &Fields, random: &mut Random| {
             [0, 1, 2, 3, 4, session.width, session.height, 2_047, 2_048, 2_049, 65_535, random.next() as u16][random.below(12) as usize]
         };
-        match random.below(9) {
+        let number = |odd: [u32; 5], random: &mut Random| odd.get(random.below(6) as usize).copied().unwrap_or(random.next() as u32);
+        match random.below(11) {
             0 => session.opened ^= true,
             1 => session.width = short(session, random),
             2 => session.height = short(session, random),
@@ -274,7 +275,9 @@ fn tamper_session(session: &mut Fields, random: &mut Random) {
             5 => session.lowered ^= true,
             6 => session.x = short(session, random),
             7 => session.y = short(session, random),
-            _ => session.q = [0, 1, 4_194_304, 4_194_305, u32::MAX, random.next() as u32][random.below(6) as usize],
+            8 => session.q = number([0, 1, 4_194_304, 4_194_305, u32::MAX], random),
+            9 => session.met ^= true,
+            _ => session.closest = number([0, 1, 2, 2_147_483_648, u32::MAX], random),
         }
     }
 }

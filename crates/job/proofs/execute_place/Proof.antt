@@ -11,7 +11,8 @@ returns c =
     let m = c .before .before in
     let a = m .before .args in
     let lent = upto-take (2 * a .n) (a .map .now) (m .first-pairs .ensures .0) in
-    place-executed (a .s) (a .n) (a .map .now) _ (a .x) (a .y) (a .q) (rw (← lent) (c .place .ensures .0)) (c .place .ensures .1)
+    let e = rw lent at (c .place .ensures) in
+    place-executed (a .s) (a .n) (a .map .now) _ (a .x) (a .y) (a .q) (e .0) (e .1)
 
 pub execute-place-spec : {M : Type 1} → statement M
 execute-place-spec = tie.close (tie.spec (λ c κs. search needs) (λ c. search (needs, part-length)) (λ c κs. search needs) returns)

@@ -11,7 +11,8 @@ returns c =
     let m = c .before .before in
     let a = m .before .args in
     let lent = upto-take (2 * a .n) (a .map .now) (m .first-pairs .ensures .0) in
-    run-executed (a .s) (a .n) (a .map .now) _ (a .direction) (a .count) (rw (← lent) (c .run .ensures .0)) (c .run .ensures .1)
+    let e = rw lent at (c .run .ensures) in
+    run-executed (a .s) (a .n) (a .map .now) _ (a .direction) (a .count) (e .0) (e .1)
 
 pub execute-run-spec : {M : Type 1} → statement M
 execute-run-spec = tie.close (tie.spec (λ c κs. search needs) (λ c. search (needs, part-length)) (λ c κs. search needs) returns)

@@ -1,4 +1,4 @@
--- `session::state::is_sound` meets its contract: the three parts are the definition's.
+-- `session::state::is_sound` meets its contract: the four parts are the definition's.
 -- Assumes nothing.
 use borrow.Author.Needs.{needs}
 use Rattle.session.specs.State.{sound}
@@ -7,7 +7,12 @@ use Rattle.session.proofs.state.is_sound.Tie as tie
 
 returns : tie.Need-returns
 unfolding sound
-returns c = rw (c .before .before .is-sheet-sound .ensures, c .before .is-map-sound .ensures, c .is-cutter-sound .ensures)
+returns c =
+    let k = c .before in
+    let m = k .before in
+    rw (m .before .is-sheet-sound .ensures, m .is-map-sound .ensures, k .is-cutter-sound .ensures, c .is-closest-sound .ensures)
 
 pub is-sound-spec : {M : Type 1} → statement M
-is-sound-spec = tie.close (tie.spec (λ c κs. search needs) (λ c κs. search needs) (λ c κs. search needs) returns)
+is-sound-spec =
+    tie.close
+    (tie.spec (λ c κs. search needs) (λ c κs. search needs) (λ c κs. search needs) (λ c κs. search needs) returns)

@@ -1,5 +1,6 @@
--- `cutter::may_stand` meets its contract: the two tests of `passesAt`, at a pixel that the map holds.
+-- `cutter::look_at` meets its contract: the two tests of `passesAt`, at a pixel that the map holds, and its size.
 -- Assumes nothing.
+use mathlib.Core.Path.{refl, sym, _∙_}
 use Prim.Native.Nat.{_*_, _<_, _≤_}
 use native.Mathlib.Omega.{arith}
 use borrow.Author.Needs.{needs}
@@ -7,8 +8,9 @@ use Rattle.raster.proofs.Product.{product-small}
 use Rattle.raster.specs.Pixels.{index}
 use Rattle.raster.specs.PixelsLaws.{index-inside}
 use Rattle.cutter.specs.Gates.{passesAt}
-use Rattle.cutter.proofs.may_stand.Statement.{statement}
-use Rattle.cutter.proofs.may_stand.Tie as tie
+use Rattle.cutter.specs.Closest.{closestWith}
+use Rattle.cutter.proofs.look_at.Statement.{statement}
+use Rattle.cutter.proofs.look_at.Tie as tie
 
 -- the pixel's place, and how many there are
 at : (c : tie.After-struct-known) → let k = c .before .args .c in
@@ -19,11 +21,18 @@ at c =
     (index-inside (k .width) (k .x) (k .y) (p .across) (k .height) (p .down), product-small (k .height) (k .width) (omega arith) (omega arith))
 
 returns : tie.Need-returns
-unfolding passesAt
-returns c = rw (c .before .before .unlabelled-at .ensures, c .passes-gate .ensures, c .before .size-at .ensures .0)
+unfolding passesAt closestWith
+returns c = rw (sym (c .before .unlabelled-at .ensures) ∙ c .if1 .taken) (refl, refl)
 
-pub may-stand-spec : {M : Type 1} → statement M
-may-stand-spec =
+returns-2 : tie.Need-returns-2
+unfolding passesAt closestWith
+returns-2 c =
+    let g = c .before in
+    let l = g .before in
+    rw (sym (l .before .unlabelled-at .ensures) ∙ l .if1 .left, g .passes-gate .ensures, c .nearer .ensures, l .before .before .size-at .ensures .0) (refl, refl)
+
+pub look-at-spec : {M : Type 1} → statement M
+look-at-spec =
     tie.close
     (tie.spec
     (λ c. search needs)
@@ -33,5 +42,7 @@ may-stand-spec =
     (λ c. omega (arith, at (c .before .before)))
     (λ c κs. let s = c .before .before in omega (arith, at s, s .before .pre .held))
     (λ c κs. let s = c .before .before .before in omega (arith, at s, s .before .pre .held))
+    returns
     (λ c κs. search needs)
-    returns)
+    (λ c κs. search needs)
+    returns-2)

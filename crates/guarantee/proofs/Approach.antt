@@ -1,0 +1,124 @@
+-- The closest approach: what is recorded of the places visited so far, and one more, is the least again; and what a least size is on an exact map.
+-- Assumes nothing.
+use mathlib.Core.Path.{_≡_, refl, sym, ap, _∙_}
+use mathlib.Core.Logic.{inl, inr}
+use mathlib.Core.Bool.{Bool, true, false, cond, true≢false}
+use mathlib.Core.List.{List, [], _∷_}
+use Prim.Native.Nat.{ℕ, _<_, _≤_}
+use native.Mathlib.Omega.{arith}
+use lib.Dec.{eqb, leb, ltb}
+use lib.IntN.{ℤ, pos, natAbs}
+use borrow.Author.Tests.{leb-true, leb-false, lt-ltb, ltb-true}
+use Rattle.raster.specs.Limits.{maxSide}
+use Rattle.raster.specs.Map.{sizeAt, unlabelledAt}
+use Rattle.raster.specs.Pixels.{Mask, index}
+use Rattle.raster.specs.Place.{isPixel}
+use Rattle.raster.specs.Tests.{and-left, and-right}
+use Rattle.raster.specs.VectorLaws.{ends-size}
+use Rattle.cutter.specs.declared.Closest.{Closest}
+use Rattle.cutter.specs.Closest.{unmet, nearer, closestWith}
+use Rattle.exact.specs.Nearest.{exactMap}
+use Rattle.exact.proofs.Theorems as exact
+use Rattle.guarantee.specs.Claims.{Among, Least, none-met, least-met, Sized, Distant, Approach}
+
+-- ---- the places visited
+
+-- none
+pub no-approach : {map : List ℤ} {w h : ℕ} → Approach map w h [] unmet
+no-approach = record { pixels = λ p. elim [ ]; least = none-met (λ x y. elim [ ]) }
+
+-- none is recorded in one way
+pub one-none : {Has : (x y n : ℕ) → Type 0} {ps : List (ℤ × ℤ)} {k : Closest} → Least Has ps k → cond (k .met) true (eqb (k .size) 0) ≡ true
+one-none (none-met none) = refl
+one-none (least-met x y n v s least) = refl
+
+-- what holds of one more pixel and of those before it holds of all
+all-pixels : (P : (i j : ℕ) → Type 0) {x y : ℕ} (ps : List (ℤ × ℤ)) → P x y → ((i j : ℕ) → Among (pos i, pos j) ps → P i j)
+    → (i j : ℕ) → Among (pos i, pos j) ((pos x, pos y) ∷ ps) → P i j
+all-pixels P ps p rest i j (inl e) = rw (← ap (λ (t : ℤ × ℤ). natAbs (t .0)) e, ← ap (λ (t : ℤ × ℤ). natAbs (t .1)) e) p
+all-pixels P ps p rest i j (inr v) = rest i j v
+
+module _ (map : List ℤ) (w x y : ℕ) where
+  abbrev here : ℕ
+  here = sizeAt map (index w x y)
+
+  -- the least of one more labelled pixel
+  nearer-least : {ps : List (ℤ × ℤ)} {k : Closest} → unlabelledAt map (index w x y) ≡ false
+      → Least (Sized map w) ps k → Least (Sized map w) ((pos x, pos y) ∷ ps) (nearer here k)
+  unfolding nearer
+  nearer-least {ps} u (none-met none) =
+      least-met x y here (inl refl) (record { labelled = u; size = refl })
+      (all-pixels (λ i j. (m : ℕ) → Sized map w i j m → here ≤ m) ps (λ m s. omega (arith, s .size)) (λ i j v m s. absurd (none i j v m s)))
+  nearer-least {ps} u (least-met i j n v s least) = go (leb n here) refl
+    where
+      go : (t : Bool) → leb n here ≡ t → Least (Sized map w) ((pos x, pos y) ∷ ps) (cond t (record { met = true; size = n }) (record { met = true; size = here }))
+      go true e =
+          let l = leb-true n here e in
+          least-met i j n (inr v) s (all-pixels (λ a b. (m : ℕ) → Sized map w a b m → n ≤ m) ps (λ m t. omega (arith, t .size, l)) least)
+      go false e =
+          let l = leb-false n here e in
+          least-met x y here (inl refl) (record { labelled = u; size = refl })
+          (all-pixels (λ a b. (m : ℕ) → Sized map w a b m → here ≤ m) ps (λ m t. omega (arith, t .size)) (λ a b v m t. omega (arith, l, least a b v m t)))
+
+  -- of one more pixel
+  with-least : {ps : List (ℤ × ℤ)} {k : Closest}
+      → Least (Sized map w) ps k → Least (Sized map w) ((pos x, pos y) ∷ ps) (closestWith map (index w x y) k)
+  unfolding closestWith
+  with-least {ps} {k} l = go (unlabelledAt map (index w x y)) refl l
+    where
+      go : (t : Bool) → unlabelledAt map (index w x y) ≡ t → {c : Closest} → Least (Sized map w) ps c
+          → Least (Sized map w) ((pos x, pos y) ∷ ps) (cond t c (nearer here c))
+      go true u (none-met none) = none-met (all-pixels (λ i j. (n : ℕ) → Sized map w i j n → ⊥) ps (λ n s. true≢false (sym u ∙ s .labelled)) none)
+      go true u (least-met i j n v s least) =
+          least-met i j n (inr v) s
+          (all-pixels (λ a b. (m : ℕ) → Sized map w a b m → n ≤ m) ps (λ m t. absurd (true≢false (sym u ∙ t .labelled))) least)
+      go false u c = nearer-least u c
+
+  -- and it is a pixel
+  pub with-pixel : {h : ℕ} {p : ℤ × ℤ} {ps : List (ℤ × ℤ)} {k : Closest} → x < w → y < h → p ≡ (pos x, pos y)
+      → Approach map w h ps k → Approach map w h (p ∷ ps) (closestWith map (index w x y) k)
+  with-pixel {h} {p} {ps} {k} across down at a = rw at (record { pixels = all; least = with-least (a .least) })
+    where
+      all : (o : ℤ × ℤ) → Among o ((pos x, pos y) ∷ ps) → isPixel w h o ≡ true
+      all o (inl e) = rw (← e, lt-ltb x w across, lt-ltb y h down)
+      all o (inr v) = a .pixels o v
+
+-- ---- on an exact map
+
+module _ (copper : Mask) (w h : ℕ) (wide : w ≤ maxSide) (tall : h ≤ maxSide) {ps : List (ℤ × ℤ)} {k : Closest} (a : Approach (exactMap copper w h) w h ps k) where
+  inside : {x y : ℕ} → Among (pos x, pos y) ps → (x < w) × (y < h)
+  inside {x} {y} v =
+      let e = a .pixels (pos x, pos y) v in
+      (ltb-true x w (and-left (ltb x w) _ e), ltb-true y h (and-right (ltb x w) _ e))
+
+  -- with copper every pixel is labelled, and no copper is nearer than its size
+  sized : {x y n : ℕ} → Among (pos x, pos y) ps → Distant copper w h x y n → Sized (exactMap copper w h) w x y (sizeAt (exactMap copper w h) (index w x y))
+  sized {x} {y} v d =
+      let i = inside v in
+      record { labelled = exact.with-copper copper w h wide tall x y (i .0) (i .1) (d .column) (d .row) (d .on-copper); size = refl }
+
+  -- the least size is the least squared distance to copper
+  pub least-distance : Least (Distant copper w h) ps k
+  least-distance = go (a .least)
+    where
+      go : {c : Closest} → Least (Sized (exactMap copper w h) w) ps c → Least (Distant copper w h) ps c
+      go (none-met none) = none-met (λ x y v n d. none x y v _ (sized v d))
+      go (least-met x y n v s least) =
+          let i = inside v in
+          let t = exact.ends-on-copper copper w h wide tall x y (i .0) (i .1) (s .labelled) in
+          least-met x y n v (record { column = t .column; row = t .row; on-copper = t .on-copper; distance = sym (ends-size (t .ends)) ∙ s .size })
+          (λ c r u m d.
+          let j = inside u in
+          omega (
+            arith,
+            least c r u _ (sized u d),
+            exact.least copper w h wide tall c r (j .0) (j .1) (d .column) (d .row) (d .on-copper),
+            d .distance,
+          ))
+
+-- the same of copper that is the same
+pub same-least : {c₁ c₂ : Mask} {w₁ h₁ w₂ h₂ : ℕ} {ps : List (ℤ × ℤ)} {k : Closest}
+    → ((x y n : ℕ) → Distant c₁ w₁ h₁ x y n → Distant c₂ w₂ h₂ x y n) → ((x y n : ℕ) → Distant c₂ w₂ h₂ x y n → Distant c₁ w₁ h₁ x y n)
+    → Least (Distant c₁ w₁ h₁) ps k → Least (Distant c₂ w₂ h₂) ps k
+same-least to from (none-met none) = none-met (λ x y v n d. none x y v n (from x y n d))
+same-least to from (least-met x y n v d least) = least-met x y n v (to x y n d) (λ i j u m e. least i j u m (from i j m e))
