@@ -16,7 +16,7 @@ use Rattle.raster.specs.Place.{isPixel}
 use Rattle.raster.specs.Tests.{and-left, and-right}
 use Rattle.raster.specs.VectorLaws.{ends-size}
 use Rattle.cutter.specs.declared.Closest.{Closest}
-use Rattle.cutter.specs.Closest.{unmet, nearer, closestWith}
+use Rattle.cutter.specs.Closest.{unmet, metAt, nearer, closestWith}
 use Rattle.exact.specs.Nearest.{exactMap}
 use Rattle.exact.proofs.Theorems as exact
 use Rattle.guarantee.specs.Claims.{Among, Least, none-met, least-met, Sized, Distant, Approach}
@@ -42,25 +42,28 @@ module _ (map : List ℤ) (w x y : ℕ) where
   abbrev here : ℕ
   here = sizeAt map (index w x y)
 
-  -- the least of one more labelled pixel
+  -- n is at most the size of (i, j), if that is labelled
+  abbrev AtMost : (n i j : ℕ) → Type 0
+  AtMost n i j = (m : ℕ) → Sized map w i j m → n ≤ m
+
+  -- the pixel is the least, if it is labelled and none before it is less
+  first-least : {ps : List (ℤ × ℤ)} → unlabelledAt map (index w x y) ≡ false → ((i j : ℕ) → Among (pos i, pos j) ps → AtMost here i j)
+      → Least (Sized map w) ((pos x, pos y) ∷ ps) (metAt here)
+  first-least {ps} u rest =
+      least-met x y here (inl refl) (record { labelled = u; size = refl }) (all-pixels (AtMost here) ps (λ m s. omega (arith, s .size)) rest)
+
+  -- the least with it, labelled
   nearer-least : {ps : List (ℤ × ℤ)} {k : Closest} → unlabelledAt map (index w x y) ≡ false
       → Least (Sized map w) ps k → Least (Sized map w) ((pos x, pos y) ∷ ps) (nearer here k)
   unfolding nearer
-  nearer-least {ps} u (none-met none) =
-      least-met x y here (inl refl) (record { labelled = u; size = refl })
-      (all-pixels (λ i j. (m : ℕ) → Sized map w i j m → here ≤ m) ps (λ m s. omega (arith, s .size)) (λ i j v m s. absurd (none i j v m s)))
+  nearer-least u (none-met none) = first-least u (λ i j v m s. absurd (none i j v m s))
   nearer-least {ps} u (least-met i j n v s least) = go (leb n here) refl
     where
-      go : (t : Bool) → leb n here ≡ t → Least (Sized map w) ((pos x, pos y) ∷ ps) (cond t (record { met = true; size = n }) (record { met = true; size = here }))
-      go true e =
-          let l = leb-true n here e in
-          least-met i j n (inr v) s (all-pixels (λ a b. (m : ℕ) → Sized map w a b m → n ≤ m) ps (λ m t. omega (arith, t .size, l)) least)
-      go false e =
-          let l = leb-false n here e in
-          least-met x y here (inl refl) (record { labelled = u; size = refl })
-          (all-pixels (λ a b. (m : ℕ) → Sized map w a b m → here ≤ m) ps (λ m t. omega (arith, t .size)) (λ a b v m t. omega (arith, l, least a b v m t)))
+      go : (t : Bool) → leb n here ≡ t → Least (Sized map w) ((pos x, pos y) ∷ ps) (cond t (metAt n) (metAt here))
+      go true e = let l = leb-true n here e in least-met i j n (inr v) s (all-pixels (AtMost n) ps (λ m t. omega (arith, t .size, l)) least)
+      go false e = let l = leb-false n here e in first-least u (λ a b o m t. omega (arith, l, least a b o m t))
 
-  -- of one more pixel
+  -- with it, labelled or not
   with-least : {ps : List (ℤ × ℤ)} {k : Closest}
       → Least (Sized map w) ps k → Least (Sized map w) ((pos x, pos y) ∷ ps) (closestWith map (index w x y) k)
   unfolding closestWith
@@ -70,8 +73,7 @@ module _ (map : List ℤ) (w x y : ℕ) where
           → Least (Sized map w) ((pos x, pos y) ∷ ps) (cond t c (nearer here c))
       go true u (none-met none) = none-met (all-pixels (λ i j. (n : ℕ) → Sized map w i j n → ⊥) ps (λ n s. true≢false (sym u ∙ s .labelled)) none)
       go true u (least-met i j n v s least) =
-          least-met i j n (inr v) s
-          (all-pixels (λ a b. (m : ℕ) → Sized map w a b m → n ≤ m) ps (λ m t. absurd (true≢false (sym u ∙ t .labelled))) least)
+          least-met i j n (inr v) s (all-pixels (AtMost n) ps (λ m t. absurd (true≢false (sym u ∙ t .labelled))) least)
       go false u c = nearer-least u c
 
   -- and it is a pixel
@@ -116,7 +118,7 @@ module _ (copper : Mask) (w h : ℕ) (wide : w ≤ maxSide) (tall : h ≤ maxSid
             d .distance,
           ))
 
--- the same of copper that is the same
+-- so it is of other copper that has the same distances
 pub same-least : {c₁ c₂ : Mask} {w₁ h₁ w₂ h₂ : ℕ} {ps : List (ℤ × ℤ)} {k : Closest}
     → ((x y n : ℕ) → Distant c₁ w₁ h₁ x y n → Distant c₂ w₂ h₂ x y n) → ((x y n : ℕ) → Distant c₂ w₂ h₂ x y n → Distant c₁ w₁ h₁ x y n)
     → Least (Distant c₁ w₁ h₁) ps k → Least (Distant c₂ w₂ h₂) ps k

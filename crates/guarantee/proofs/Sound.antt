@@ -52,7 +52,7 @@ module _ (s : Session) (fine : sound s ≡ true) where
   unfolding sound sheetSound mapSound cutterSound closestSound
   up-sound = rw (sheet-part, map-part, closest-part)
 
-  -- none has the size 0
+  -- k says none with the size 0, or some size
   pub down-sound : (x y q : ℕ) (k : Closest) → cond (k .met) true (eqb (k .size) 0) ≡ true
       → s .current ≡ true → x < s .width → y < s .height → q ≤ maxQ → sound (downAt x y q k s) ≡ true
   unfolding sound sheetSound mapSound cutterSound closestSound

@@ -216,10 +216,10 @@ module _ {b : Board} {w : World} (inv : Inv b w) where
 
   -- ---- lift, place and run: the cutter and its closest approach alone change
 
-  abbrev withCutterAs : (lowered : Bool) (x y q : ℕ) (closest : Closest) → Session
-  withCutterAs l x y q k = recorded (s .opened) (s .width) (s .height) (s .current) (s .engine) l x y q k
+  abbrev cutterAs : (lowered : Bool) (x y q : ℕ) (closest : Closest) → Session
+  cutterAs l x y q k = recorded (s .opened) (s .width) (s .height) (s .current) (s .engine) l x y q k
 
-  cutter-inv : (l : Bool) (x y q : ℕ) (closest : Closest) (k : BoardCutter) (visited : List (ℤ × ℤ)) → let t = withCutterAs l x y q closest in
+  cutter-inv : (l : Bool) (x y q : ℕ) (closest : Closest) (k : BoardCutter) (visited : List (ℤ × ℤ)) → let t = cutterAs l x y q closest in
       SameCutter k t → sound t ≡ true
       → (l ≡ true → Clear (copperOf (w .sheet) (s .width)) (s .width) (s .height) x y q)
       → Approach (w .map) (s .width) (s .height) visited closest
@@ -331,6 +331,7 @@ module _ {b : Board} {w : World} (inv : Inv b w) where
         (with-pixel (w .map) (s .width) (columnAfter d (suc i) (s .x)) (rowAfter d (suc i) (s .y)) (o .end .across) (o .end .down)
         (steps-reach g (suc i) l) (meets g i (omega arith)))
 
+    -- with those of the board's run
     met-by : RunGranted s (w .map) d n → (k : BoardCutter) → SameCutter k s
         → Approach (w .map) (s .width) (s .height) (pathRun d n k ++ b .visited) (closestAlong (ownCutter s) (w .map) d n (s .closest))
     met-by g up e = absurd (true≢false (sym (g .lowered) ∙ e))

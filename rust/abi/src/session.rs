@@ -29,7 +29,8 @@
 //! ```
 
 /// The closest approach: the least size, on the current map, of the labelled pixels that the cutter has met since the last placing that was
-/// done, the placed one among them. On an exact map it is their least true squared distance to copper.
+/// done, the placed one among them. On an exact map it is their least true squared distance to copper. There is none before any placing, nor
+/// after a call that has changed the sheet or the map; lift keeps it, and so does every refusal.
 #[repr(C)]
 #[derive(Clone, Copy, Debug, PartialEq, Eq)]
 pub struct Closest {
