@@ -12,10 +12,11 @@ use Rattle.cutter.specs.declared.Closest.{Closest}
 use Rattle.cutter.specs.declared.Cutter.{Cutter}
 use Rattle.cutter.specs.Gates.{cutterAfter}
 
--- none: the size is 0 then
+-- it has met none, which is said with the size 0
 abbrev pub unmet : Closest
 unmet = record { met = false; size = 0 }
 
+-- a least size
 abbrev pub metAt : (size : ℕ) → Closest
 metAt a = record { met = true; size = a }
 

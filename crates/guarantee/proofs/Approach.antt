@@ -9,6 +9,7 @@ use native.Mathlib.Omega.{arith}
 use lib.Dec.{eqb, leb, ltb}
 use lib.IntN.{ℤ, pos, natAbs}
 use borrow.Author.Tests.{leb-true, leb-false, lt-ltb, ltb-true}
+use Rattle.raster.specs.Distance.{Copper}
 use Rattle.raster.specs.Limits.{maxSide}
 use Rattle.raster.specs.Map.{sizeAt, unlabelledAt}
 use Rattle.raster.specs.Pixels.{Mask, index}
@@ -19,15 +20,15 @@ use Rattle.cutter.specs.declared.Closest.{Closest}
 use Rattle.cutter.specs.Closest.{unmet, metAt, nearer, closestWith}
 use Rattle.exact.specs.Nearest.{exactMap}
 use Rattle.exact.proofs.Theorems as exact
-use Rattle.guarantee.specs.Claims.{Among, Least, none-met, least-met, Sized, Distant, Approach}
+use Rattle.guarantee.specs.Claims.{Among, Least, none-met, least-met, HasSize, HasDistance, Approach}
 
 -- ---- the places visited
 
--- none
+-- nothing is visited yet
 pub no-approach : {map : List ℤ} {w h : ℕ} → Approach map w h [] unmet
 no-approach = record { pixels = λ p. elim [ ]; least = none-met (λ x y. elim [ ]) }
 
--- none is recorded in one way
+-- where nothing was met the size is 0
 pub one-none : {Has : (x y n : ℕ) → Type 0} {ps : List (ℤ × ℤ)} {k : Closest} → Least Has ps k → cond (k .met) true (eqb (k .size) 0) ≡ true
 one-none (none-met none) = refl
 one-none (least-met x y n v s least) = refl
@@ -44,34 +45,34 @@ module _ (map : List ℤ) (w x y : ℕ) where
 
   -- n is at most the size of (i, j), if that is labelled
   abbrev AtMost : (n i j : ℕ) → Type 0
-  AtMost n i j = (m : ℕ) → Sized map w i j m → n ≤ m
+  AtMost n i j = (m : ℕ) → HasSize map w i j m → n ≤ m
 
   -- the pixel is the least, if it is labelled and none before it is less
   first-least : {ps : List (ℤ × ℤ)} → unlabelledAt map (index w x y) ≡ false → ((i j : ℕ) → Among (pos i, pos j) ps → AtMost here i j)
-      → Least (Sized map w) ((pos x, pos y) ∷ ps) (metAt here)
+      → Least (HasSize map w) ((pos x, pos y) ∷ ps) (metAt here)
   first-least {ps} u rest =
       least-met x y here (inl refl) (record { labelled = u; size = refl }) (all-pixels (AtMost here) ps (λ m s. omega (arith, s .size)) rest)
 
   -- the least with it, labelled
   nearer-least : {ps : List (ℤ × ℤ)} {k : Closest} → unlabelledAt map (index w x y) ≡ false
-      → Least (Sized map w) ps k → Least (Sized map w) ((pos x, pos y) ∷ ps) (nearer here k)
+      → Least (HasSize map w) ps k → Least (HasSize map w) ((pos x, pos y) ∷ ps) (nearer here k)
   unfolding nearer
   nearer-least u (none-met none) = first-least u (λ i j v m s. absurd (none i j v m s))
   nearer-least {ps} u (least-met i j n v s least) = go (leb n here) refl
     where
-      go : (t : Bool) → leb n here ≡ t → Least (Sized map w) ((pos x, pos y) ∷ ps) (cond t (metAt n) (metAt here))
+      go : (t : Bool) → leb n here ≡ t → Least (HasSize map w) ((pos x, pos y) ∷ ps) (cond t (metAt n) (metAt here))
       go true e = let l = leb-true n here e in least-met i j n (inr v) s (all-pixels (AtMost n) ps (λ m t. omega (arith, t .size, l)) least)
       go false e = let l = leb-false n here e in first-least u (λ a b o m t. omega (arith, l, least a b o m t))
 
   -- with it, labelled or not
   with-least : {ps : List (ℤ × ℤ)} {k : Closest}
-      → Least (Sized map w) ps k → Least (Sized map w) ((pos x, pos y) ∷ ps) (closestWith map (index w x y) k)
+      → Least (HasSize map w) ps k → Least (HasSize map w) ((pos x, pos y) ∷ ps) (closestWith map (index w x y) k)
   unfolding closestWith
   with-least {ps} {k} l = go (unlabelledAt map (index w x y)) refl l
     where
-      go : (t : Bool) → unlabelledAt map (index w x y) ≡ t → {c : Closest} → Least (Sized map w) ps c
-          → Least (Sized map w) ((pos x, pos y) ∷ ps) (cond t c (nearer here c))
-      go true u (none-met none) = none-met (all-pixels (λ i j. (n : ℕ) → Sized map w i j n → ⊥) ps (λ n s. true≢false (sym u ∙ s .labelled)) none)
+      go : (t : Bool) → unlabelledAt map (index w x y) ≡ t → {c : Closest} → Least (HasSize map w) ps c
+          → Least (HasSize map w) ((pos x, pos y) ∷ ps) (cond t c (nearer here c))
+      go true u (none-met none) = none-met (all-pixels (λ i j. (n : ℕ) → HasSize map w i j n → ⊥) ps (λ n s. true≢false (sym u ∙ s .labelled)) none)
       go true u (least-met i j n v s least) =
           least-met i j n (inr v) s (all-pixels (AtMost n) ps (λ m t. absurd (true≢false (sym u ∙ t .labelled))) least)
       go false u c = nearer-least u c
@@ -93,18 +94,18 @@ module _ (copper : Mask) (w h : ℕ) (wide : w ≤ maxSide) (tall : h ≤ maxSid
       let e = a .pixels (pos x, pos y) v in
       (ltb-true x w (and-left (ltb x w) _ e), ltb-true y h (and-right (ltb x w) _ e))
 
-  -- with copper every pixel is labelled, and no copper is nearer than its size
-  sized : {x y n : ℕ} → Among (pos x, pos y) ps → Distant copper w h x y n → Sized (exactMap copper w h) w x y (sizeAt (exactMap copper w h) (index w x y))
-  sized {x} {y} v d =
+  -- with copper every pixel has a size
+  has-size : {x y n : ℕ} → Among (pos x, pos y) ps → HasDistance copper w h x y n → HasSize (exactMap copper w h) w x y (sizeAt (exactMap copper w h) (index w x y))
+  has-size {x} {y} v d =
       let i = inside v in
       record { labelled = exact.with-copper copper w h wide tall x y (i .0) (i .1) (d .column) (d .row) (d .on-copper); size = refl }
 
   -- the least size is the least squared distance to copper
-  pub least-distance : Least (Distant copper w h) ps k
+  pub least-distance : Least (HasDistance copper w h) ps k
   least-distance = go (a .least)
     where
-      go : {c : Closest} → Least (Sized (exactMap copper w h) w) ps c → Least (Distant copper w h) ps c
-      go (none-met none) = none-met (λ x y v n d. none x y v _ (sized v d))
+      go : {c : Closest} → Least (HasSize (exactMap copper w h) w) ps c → Least (HasDistance copper w h) ps c
+      go (none-met none) = none-met (λ x y v n d. none x y v _ (has-size v d))
       go (least-met x y n v s least) =
           let i = inside v in
           let t = exact.ends-on-copper copper w h wide tall x y (i .0) (i .1) (s .labelled) in
@@ -113,14 +114,18 @@ module _ (copper : Mask) (w h : ℕ) (wide : w ≤ maxSide) (tall : h ≤ maxSid
           let j = inside u in
           omega (
             arith,
-            least c r u _ (sized u d),
+            least c r u _ (has-size u d),
             exact.least copper w h wide tall c r (j .0) (j .1) (d .column) (d .row) (d .on-copper),
             d .distance,
           ))
 
--- so it is of other copper that has the same distances
+-- where copper is the same, so is what is least
+carried : {c₁ c₂ : Mask} {w₁ h₁ w₂ h₂ x y n : ℕ} → ((i j : ℕ) → Copper c₁ w₁ h₁ i j → Copper c₂ w₂ h₂ i j)
+    → HasDistance c₁ w₁ h₁ x y n → HasDistance c₂ w₂ h₂ x y n
+carried to d = record { column = d .column; row = d .row; on-copper = to _ _ (d .on-copper); distance = d .distance }
+
 pub same-least : {c₁ c₂ : Mask} {w₁ h₁ w₂ h₂ : ℕ} {ps : List (ℤ × ℤ)} {k : Closest}
-    → ((x y n : ℕ) → Distant c₁ w₁ h₁ x y n → Distant c₂ w₂ h₂ x y n) → ((x y n : ℕ) → Distant c₂ w₂ h₂ x y n → Distant c₁ w₁ h₁ x y n)
-    → Least (Distant c₁ w₁ h₁) ps k → Least (Distant c₂ w₂ h₂) ps k
-same-least to from (none-met none) = none-met (λ x y v n d. none x y v n (from x y n d))
-same-least to from (least-met x y n v d least) = least-met x y n v (to x y n d) (λ i j u m e. least i j u m (from i j m e))
+    → ((i j : ℕ) → Copper c₁ w₁ h₁ i j → Copper c₂ w₂ h₂ i j) → ((i j : ℕ) → Copper c₂ w₂ h₂ i j → Copper c₁ w₁ h₁ i j)
+    → Least (HasDistance c₁ w₁ h₁) ps k → Least (HasDistance c₂ w₂ h₂) ps k
+same-least to from (none-met none) = none-met (λ x y v n d. none x y v n (carried from d))
+same-least to from (least-met x y n v d least) = least-met x y n v (carried to d) (λ i j u m e. least i j u m (carried from e))

@@ -18,7 +18,7 @@ use Rattle.session.specs.Maps.{engineMap}
 use Rattle.session.specs.Lists.{World}
 use Rattle.session.proofs.Granted.{Limited, active-limits}
 use Rattle.guarantee.specs.Board.{Board}
-use Rattle.guarantee.specs.Claims.{withinFraction, Close, Agree, Free, Least, Distant, Approach}
+use Rattle.guarantee.specs.Claims.{withinFraction, Close, Agree, Free, Least, HasDistance, Approach}
 use Rattle.guarantee.proofs.Gates.{gate-clear, gate-close, in-fraction}
 use Rattle.guarantee.proofs.Approach.{least-distance, same-least}
 use Rattle.guarantee.proofs.Sound.{current-active, known-engine}
@@ -92,13 +92,12 @@ module _ {b : Board} {w : World} (inv : Inv b w) where
 
   -- ---- the closest approach on an exact map
 
-  pub exact-approach : b .engine ≡ 1 → Least (Distant (b .copper) (b .width) (b .height)) (b .visited) (w .session .closest)
+  pub exact-approach : b .engine ≡ 1 → Least (HasDistance (b .copper) (b .width) (b .height)) (b .visited) (w .session .closest)
   exact-approach exact =
       let s = w .session in
       let current : s .current ≡ true = rw exact at (inv .agree .current) in
       let l = active-limits s (current-active s (inv .fine) current) in
       let e = inv .agree .engine ∙ exact in
-      same-least (λ x y n d. record { column = d .column; row = d .row; on-copper = on-board (d .on-copper); distance = d .distance })
-      (λ x y n d. record { column = d .column; row = d .row; on-copper = on-sheet (d .on-copper); distance = d .distance })
+      same-least (λ i j. on-board) (λ i j. on-sheet)
       (least-distance (copperOf (w .sheet) (s .width)) (s .width) (s .height) (l .wide) (l .high)
       (rw (inv .built current .map-is, e) at (inv .approach)))

@@ -30,7 +30,7 @@ use Rattle.session.specs.Refusals.{openTable, fillTable, buildTable, buildTable
 use Rattle.session.specs.Calls.{filledBy, runSession}
 use Rattle.session.specs.Lists.{Lent, Call, opening, paint, erase, build, place, run, lift, expand, shrink, skeleton, rebuild, aside, World, world, lentTo, tableOf, answer, left, worldAfter}
 use Rattle.session.proofs.Granted.{open-granted, fill-granted, Building, build-granted, Placing, place-done, place-stopped, RunGranted, run-done, run-stopped, resize-granted}
-use Rattle.guarantee.specs.Board.{BoardCutter, up, down, Board, boardOf, recoppered, withCutter, cutterRun, path, pathRun, done, feed}
+use Rattle.guarantee.specs.Board.{BoardCutter, up, down, Board, boardOf, recoppered, withCutter, cutterRun, toolPath, toolPathOf, done, feed}
 use Rattle.guarantee.specs.Claims.{Visits, at-place, at-step, Safe, Fair, Claim, SameCutter, Free, Approach}
 use Rattle.guarantee.proofs.Answers.{without, never}
 use Rattle.guarantee.proofs.Sound.{open-sound, stale-sound, built-sound, up-sound, down-sound}
@@ -322,8 +322,8 @@ module _ {b : Board} {w : World} (inv : Inv b w) where
 
     -- the closest approach with the pixels of its first i steps
     meets : RunGranted s (w .map) d n → (i : ℕ) → i ≤ n
-        → Approach (w .map) (s .width) (s .height) (path d i (pos (s .x), pos (s .y)) ++ b .visited) (closestAlong (ownCutter s) (w .map) d i (s .closest))
-    unfolding path closestAlong ascend
+        → Approach (w .map) (s .width) (s .height) (toolPath d i (pos (s .x), pos (s .y)) ++ b .visited) (closestAlong (ownCutter s) (w .map) d i (s .closest))
+    unfolding toolPath closestAlong ascend
     meets g zero l = inv .approach
     meets g (suc i) l =
         let o = on-the-way (g .on) l in
@@ -333,7 +333,7 @@ module _ {b : Board} {w : World} (inv : Inv b w) where
 
     -- with those of the board's run
     met-by : RunGranted s (w .map) d n → (k : BoardCutter) → SameCutter k s
-        → Approach (w .map) (s .width) (s .height) (pathRun d n k ++ b .visited) (closestAlong (ownCutter s) (w .map) d n (s .closest))
+        → Approach (w .map) (s .width) (s .height) (toolPathOf d n k ++ b .visited) (closestAlong (ownCutter s) (w .map) d n (s .closest))
     met-by g up e = absurd (true≢false (sym (g .lowered) ∙ e))
     met-by g (down p q) (l, (a, e)) = rw a (meets g n (omega arith))
 
@@ -352,7 +352,7 @@ module _ {b : Board} {w : World} (inv : Inv b w) where
         let y = rowAfter d n (s .y) in
         let a = met-by g (b .cutter) (inv .agree .cutter) in (
           run-safe g (r .1),
-          cutter-inv true x y (s .q) _ (cutterRun d n (b .cutter)) (pathRun d n (b .cutter) ++ b .visited) (moves g (b .cutter) (inv .agree .cutter))
+          cutter-inv true x y (s .q) _ (cutterRun d n (b .cutter)) (toolPathOf d n (b .cutter) ++ b .visited) (moves g (b .cutter) (inv .agree .cutter))
               (down-sound s (inv .fine) x y (s .q) _ (one-none (a .least)) (g .cutter .current) (g .on .end .across) (g .on .end .down) (g .cutter .small))
               (λ l. ends-free g (r .1)) a,
         ))

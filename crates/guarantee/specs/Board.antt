@@ -45,14 +45,14 @@ abbrev pub cutterRun : (direction n : ℕ) → BoardCutter → BoardCutter
 cutterRun d n up = up
 cutterRun d n (down p q) = down (walk d n p) q
 
--- the places that its single steps reach, the last one first
-unfoldable pub path : (direction n : ℕ) → ℤ × ℤ → List (ℤ × ℤ)
-path d zero p = []
-path d (suc n) p = walk d (suc n) p ∷ path d n p
+-- the places that its single steps reach, from a place and from where the cutter stands, the last one first
+unfoldable pub toolPath : (direction n : ℕ) → ℤ × ℤ → List (ℤ × ℤ)
+toolPath d zero p = []
+toolPath d (suc n) p = walk d (suc n) p ∷ toolPath d n p
 
-abbrev pub pathRun : (direction n : ℕ) → BoardCutter → List (ℤ × ℤ)
-pathRun d n up = []
-pathRun d n (down p q) = path d n p
+abbrev pub toolPathOf : (direction n : ℕ) → BoardCutter → List (ℤ × ℤ)
+toolPathOf d n up = []
+toolPathOf d n (down p q) = toolPath d n p
 
 -- after a call that is done
 abbrev pub done : Call → Board → Board
@@ -61,7 +61,7 @@ done (paint x y c r) b = recoppered (λ i j. inRectangle x y c r i j || b .coppe
 done (erase x y c r) b = recoppered (λ i j. not (inRectangle x y c r i j) && b .copper i j) b
 done (build e s) b = boardOf (b .width) (b .height) (b .copper) e
 done (place x y q) b = withCutter (down (pos x, pos y) q) ((pos x, pos y) ∷ []) b
-done (run d n) b = withCutter (cutterRun d n (b .cutter)) (pathRun d n (b .cutter) ++ b .visited) b
+done (run d n) b = withCutter (cutterRun d n (b .cutter)) (toolPathOf d n (b .cutter) ++ b .visited) b
 done lift b = withCutter up (b .visited) b
 done (expand q s) b = recoppered (grows (b .copper) (b .width) (b .height) q) b
 done (shrink q s) b = recoppered (stays (b .copper) (b .width) (b .height) q) b

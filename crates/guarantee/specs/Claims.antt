@@ -121,12 +121,12 @@ pub data Least (Has : (x y n : ℕ) → Type 0) (visited : List (ℤ × ℤ)) : 
       → ((i j : ℕ) → Among (pos i, pos j) visited → (m : ℕ) → Has i j m → n ≤ m) → Least Has visited (metAt n)
 
 -- on a map of w columns the pixel (x, y) is labelled, and n is its size
-pub record Sized (map : List ℤ) (w x y n : ℕ) : Type 0 where
+pub record HasSize (map : List ℤ) (w x y n : ℕ) : Type 0 where
   pub labelled : unlabelledAt map (index w x y) ≡ false
   pub size : sizeAt map (index w x y) ≡ n
 
 -- n is the squared distance of the pixel (x, y) to a copper pixel
-pub record Distant (copper : Mask) (w h x y n : ℕ) : Type 0 where
+pub record HasDistance (copper : Mask) (w h x y n : ℕ) : Type 0 where
   pub column : ℕ
   pub row : ℕ
   pub on-copper : Copper copper w h column row
@@ -135,7 +135,7 @@ pub record Distant (copper : Mask) (w h x y n : ℕ) : Type 0 where
 -- the places visited are pixels, and what is recorded is the least size of those that are labelled
 pub record Approach (map : List ℤ) (w h : ℕ) (visited : List (ℤ × ℤ)) (closest : Closest) : Type 0 where
   pub pixels : (p : ℤ × ℤ) → Among p visited → isPixel w h p ≡ true
-  pub least : Least (Sized map w) visited closest
+  pub least : Least (HasSize map w) visited closest
 
 -- something holds after each call of a list
 abbrev pub Along : (P : Board → World → Type 0) → List Call → Board → World → Type 0
@@ -150,4 +150,4 @@ ClosestApproach = (cs : List Call) (sheet : List ℕ) (map : List ℤ)
 -- on an exact map that is the least true squared distance of the pixels visited; none without copper
 abbrev pub TrueApproach : Type 0
 TrueApproach = (cs : List Call) (sheet : List ℕ) (map : List ℤ)
-    → Along (λ b w. b .engine ≡ 1 → Least (Distant (b .copper) (b .width) (b .height)) (b .visited) (w .session .closest)) cs blank (world fresh sheet map)
+    → Along (λ b w. b .engine ≡ 1 → Least (HasDistance (b .copper) (b .width) (b .height)) (b .visited) (w .session .closest)) cs blank (world fresh sheet map)

@@ -328,7 +328,7 @@ fn table(rounds: usize, lines: &[Line]) -> String {
     let mut text = format!("ns a pixel, the shortest of {rounds} runs of each (twice as many at 1,024, four times at 512)\n");
     text += "each ratio is the library's time to the one before it; plain is the same call in plain Rust, and fused a tuned variant:\n";
     text += "exact works a column's cost out when it is asked for; the scans take the row before and the sweep to the right in one pass,\n";
-    text += "test only a row's first pixel for a label, and start a sweep at the first labelled pixel\n\n";
+    text += "test only a row's first pixel for a label, and start a sweep at the first labelled pixel; a run's pixels are those it comes to\n\n";
     text += &format!(
         "{:8}  {:11}  {:>4}  {:>7}  {:>5}  {:>5}  {:>5}  {:>5}  {:>7}  library 2,048 / 512\n",
         "call", "board", "side", "library", "plain", "ratio", "fused", "ratio", "lent"
