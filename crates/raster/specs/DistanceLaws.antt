@@ -38,6 +38,11 @@ pub gap-below : (a b n : ℕ) → a < n → b < n → gap a b < n
 unfolding gap
 gap-below a b n h k = omega arith
 
+-- by way of a third place
+pub gap-by-way : (a b c : ℕ) → gap a c ≤ gap a b + gap b c
+unfolding gap
+gap-by-way a b c = omega arith
+
 -- (a − b)² = a² + b² − 2ab
 pub gap-square : (a b : ℕ) → gap a b * gap a b + 2 * (a * b) ≡ a * a + b * b
 gap-square a b = elim (decLe a b) [

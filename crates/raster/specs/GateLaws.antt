@@ -22,7 +22,7 @@ passed-above g a q e bound p = elim (decLt q e) [
 ]
 
 -- the pixel fails: its size is within the fraction of q
-failed-within : (g : Gate) (a q : ℕ) → passes g a q ≡ false → g .den * a ≤ g .num * q
+pub failed-within : (g : Gate) (a q : ℕ) → passes g a q ≡ false → g .den * a ≤ g .num * q
 unfolding passes
 failed-within g a q p = ltb-false (g .num * q) (g .den * a) p
 

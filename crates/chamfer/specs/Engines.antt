@@ -1,0 +1,26 @@
+-- The three engines of document 02's C-12: 4 city block, 5 chessboard, 6 chamfer. Their weights stand in a table, and the gate compares the square of a value.
+-- Assumes nothing.
+use mathlib.Core.Bool.{cond}
+use mathlib.Core.List.{List, [], _∷_}
+use Prim.Native.Nat.{ℕ, _-_}
+use lib.Dec.{eqb}
+use lib.ListN.{getD}
+use Rattle.raster.specs.Gate.{Gate}
+
+-- the weights of a side step and of a corner step, of each
+unfoldable pub weights : List (ℕ × ℕ)
+weights = (1, 2) ∷ (1, 1) ∷ (3, 4) ∷ []
+
+abbrev pub sideWeight : (engine : ℕ) → ℕ
+sideWeight e = getD weights (e - 4) (0, 0) .0
+
+abbrev pub cornerWeight : (engine : ℕ) → ℕ
+cornerWeight e = getD weights (e - 4) (0, 0) .1
+
+-- the gate at a pixel of value c: c² > 2 × q, c² > q, c² > 10 × q
+abbrev pub gate : (engine : ℕ) → Gate
+gate e = cond (eqb e 4) (record { den = 1; num = 2 }) (cond (eqb e 5) (record { den = 1; num = 1 }) (record { den = 1; num = 10 }))
+
+-- where it fails, some copper is within this fraction of q: 2, 2, 5/4
+abbrev pub fraction : (engine : ℕ) → Gate
+fraction e = cond (eqb e 6) (record { den = 4; num = 5 }) (record { den = 1; num = 2 })
