@@ -1,2 +1,3 @@
--- `Span`: where a row of the map stands.
+-- `Span`: where a row of the map stands. `Weighted`: when a map of any two weights is written.
 pub mod Span
+pub mod Weighted

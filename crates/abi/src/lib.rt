@@ -5,12 +5,14 @@ ghost use lib.Dec.{eqb};
 ghost use lib.ListN.{take, drop};
 ghost use Rattle.raster.specs.Map.{unmapped};
 ghost use Rattle.raster.specs.Refusal.{firstOf};
-ghost use Rattle.raster.specs.Sheet.{bare};
+ghost use Rattle.raster.specs.Sheet.{bare, copperOf};
 ghost use Rattle.morphology.specs.Resize.{expanded, shrunk};
 ghost use Rattle.rebuild.specs.Rebuild.{rebuilt};
 ghost use Rattle.skeleton.specs.Skeleton.{skeletonOf};
+ghost use Rattle.chamfer.specs.Chamfer.{chamferMap};
+ghost use Rattle.cutter.specs.Kinds.{maps};
 ghost use Rattle.session.specs.State.{fresh, openedAs, stale, builtBy};
-ghost use Rattle.session.specs.Maps.{engineMap};
+ghost use Rattle.session.specs.Maps.{pairsBuilt, valuesBuilt};
 ghost use Rattle.session.specs.Refusals.{
   openTable,
   fillTable,
@@ -31,6 +33,7 @@ ghost use Rattle.session.specs.Calls.{
   mapRow,
 };
 ghost use Rattle.abi.specs.Span.{rowSpan};
+ghost use Rattle.abi.specs.Weighted.{canMap};
 use session::Reply;
 use session::Session;
 
@@ -87,32 +90,49 @@ pub extern "C" fn abi_session_build(
     s: Session,
     sheet: &[u8],
     map: &mut [i16],
+    values: &mut [u16],
     scratch: &mut [i16],
     engine: u16,
 ) -> Reply
-    ensures answered { λ r. ⌜ r .answer ≡ firstOf (buildTable s (now (sheet .entry)) (now (map .entry)) (now (scratch .entry)) engine) ⌝ }
+    ensures answered { λ r. ⌜ r .answer
+        ≡ firstOf (buildTable s (now (sheet .entry)) (maps (now (map .entry)) (now (values .entry))) (now (scratch .entry)) engine) ⌝ }
     ensures handed_back { λ r. ⌜ r .session ≡ onDone (r .answer) (builtBy engine s) s ⌝ }
-    ensures map_left { λ r. ⌜ now (map .exit) ≡ onDone (r .answer) (engineMap s (now (sheet .entry)) engine) (now (map .entry)) ⌝ }
+    ensures map_left { λ r. ⌜ now (map .exit) ≡ onDone (r .answer) (pairsBuilt s (now (sheet .entry)) engine (now (map .entry))) (now (map .entry)) ⌝ }
+    ensures values_left { λ r. ⌜ now (values .exit)
+        ≡ onDone (r .answer) (valuesBuilt s (now (sheet .entry)) engine (now (values .entry))) (now (values .entry)) ⌝ }
     ensures scratch_left { λ r. ⌜ now (scratch .exit)
         ≡ cond (eqb (r .answer) 0 && eqb engine 1) (scratchBy s (now (scratch .entry))) (now (scratch .entry)) ⌝ }
 {
-    s.build(sheet, map, scratch, engine)
+    s.build(sheet, map, values, scratch, engine)
 }
 
 #[no_mangle]
-pub extern "C" fn abi_session_place(s: Session, map: &[i16], x: u16, y: u16, q: u32) -> Reply
-    ensures answered { λ r. ⌜ r .answer ≡ firstOf (placeTable s (now (map .entry)) x y q) ⌝ }
-    ensures handed_back { λ r. ⌜ r .session ≡ onDone (r .answer) (placeSession s (now (map .entry)) x y q) s ⌝ }
+pub extern "C" fn abi_session_place(
+    s: Session,
+    map: &[i16],
+    values: &[u16],
+    x: u16,
+    y: u16,
+    q: u32,
+) -> Reply
+    ensures answered { λ r. ⌜ r .answer ≡ firstOf (placeTable s (maps (now (map .entry)) (now (values .entry))) x y q) ⌝ }
+    ensures handed_back { λ r. ⌜ r .session ≡ onDone (r .answer) (placeSession s (maps (now (map .entry)) (now (values .entry))) x y q) s ⌝ }
 {
-    s.place(map, x, y, q)
+    s.place(map, values, x, y, q)
 }
 
 #[no_mangle]
-pub extern "C" fn abi_session_run(s: Session, map: &[i16], direction: u16, count: u16) -> Reply
-    ensures answered { λ r. ⌜ r .answer ≡ firstOf (runTable s (now (map .entry)) direction count) ⌝ }
-    ensures handed_back { λ r. ⌜ r .session ≡ onDone (r .answer) (runSession s (now (map .entry)) direction count) s ⌝ }
+pub extern "C" fn abi_session_run(
+    s: Session,
+    map: &[i16],
+    values: &[u16],
+    direction: u16,
+    count: u16,
+) -> Reply
+    ensures answered { λ r. ⌜ r .answer ≡ firstOf (runTable s (maps (now (map .entry)) (now (values .entry))) direction count) ⌝ }
+    ensures handed_back { λ r. ⌜ r .session ≡ onDone (r .answer) (runSession s (maps (now (map .entry)) (now (values .entry))) direction count) s ⌝ }
 {
-    s.run(map, direction, count)
+    s.run(map, values, direction, count)
 }
 
 #[no_mangle]
@@ -202,4 +222,36 @@ pub extern "C" fn abi_session_row(s: Session, map: &[i16], y: u16) -> Span
         from: len * (y as usize),
         len,
     }
+}
+
+// The map of chamfer distances for any two weights, for the comparison: written, and true, if the weights are allowed, the sides within their limits and both
+// slices of one entry a pixel. Otherwise nothing is written.
+#[no_mangle]
+pub extern "C" fn abi_chamfer_map(
+    sheet: &[u8],
+    values: &mut [u16],
+    w: u16,
+    h: u16,
+    a: u16,
+    b: u16,
+) -> bool
+    ensures allowed { λ r. ⌜ r ≡ canMap (now (sheet .entry)) (now (values .entry)) w h a b ⌝ }
+    ensures values_left { λ r. ⌜ now (values .exit)
+        ≡ cond r (chamferMap a b (copperOf (now (sheet .entry)) w) w h) (now (values .entry)) ⌝ }
+{
+    let fine = can_map(sheet, values, w, h, a, b);
+    if fine {
+        chamfer::chamfer(sheet, values, w as usize, h as usize, a, b);
+    }
+    fine
+}
+
+fn can_map(sheet: &[u8], values: &[u16], w: u16, h: u16, a: u16, b: u16) -> bool
+    ensures { λ r. ⌜ r ≡ canMap (now (sheet .entry)) (now (values .entry)) w h a b ⌝ }
+{
+    let n = raster::area(w, h);
+    let weights = (a <= b) & (((b as usize) <= 2 * (a as usize)) & (b <= 32));
+    let across = (1 <= w) & (w <= Session::MAX_SIDE);
+    let down = (1 <= h) & (h <= Session::MAX_SIDE);
+    weights & ((across & down) & ((sheet.len() == n) & (values.len() == n)))
 }

@@ -1,8 +1,9 @@
 // Shows what the library makes of small sheets: the maps by both scans, of document 01's 4 × 4 board, of document 02's 2 × 2 board, where at pixel (1, 1)
-// two vectors have one size, and of sheets of one row and one column; the exact maps of document 01's boards M1, M5 and M6; both maps of a sheet of 14 × 8
-// whose three copper pixels stand like an arrow-head: there 8SED is wrong at pixel (0, 0), where it finds the size 170 and the true one is 169; sheets with
-// the skeleton of their exact maps and the sheet rebuilt from it, which is the bare pixels again: M7, and a board of 24 × 9 with two pads, a track between
-// them and a via; document 02's 3 × 3 board shrunk by 1, of which its middle is left, and by 0, which leaves it whole; and the README's example.
+// two vectors have one size, and of sheets of one row and one column; the three maps of values of the 4 × 4 board; the exact maps of document 01's boards M1,
+// M5 and M6; both maps of a sheet of 14 × 8 whose three copper pixels stand like an arrow-head: there 8SED is wrong at pixel (0, 0), where it finds the size 170
+// and the true one is 169; sheets with the skeleton of their exact maps and the sheet rebuilt from it, which is the bare pixels again: M7, and a board of 24 × 9
+// with two pads, a track between them and a via; document 02's 3 × 3 board shrunk by 1, of which its middle is left, and by 0, which leaves it whole; and the
+// README's example.
 ghost use mathlib.Core.Path.{_≡_};
 ghost use Prim.Native.Nat.{_+_, _*_, _≤_, _<_};
 ghost use lib.ListN.{length};
@@ -148,6 +149,52 @@ fn scanned_bare() {
     show_scan(&sheet, &mut map, 3, 1, true);
 }
 
+// ---- maps of values
+
+// The value of pixel p, or a dash where it is unlabelled.
+fn value(values: &[u16], p: usize)
+    requires { ⌜ p < length (now values) ⌝ }
+{
+    if chamfer::no_value_at(values, p) {
+        text(b"-");
+        return;
+    }
+    io::print_decimal(STDOUT_FILENO, values[p] as u64);
+}
+
+// Row y of a map of width w.
+fn values_row(values: &[u16], w: usize, y: usize)
+    requires { ⌜ y * w + w ≤ length (now values) ⌝ }
+{
+    for x in 0..w {
+        space();
+        value(values, y * w + x);
+    }
+    line_end();
+}
+
+// A map of w × h pixels, a row to a line.
+fn show_values(values: &[u16], w: usize, h: usize)
+    requires { ⌜ h * w ≤ length (now values) ⌝ }
+{
+    for y in 0..h {
+        values_row(values, w, y);
+    }
+}
+
+// Document 01's 4 × 4 board by engine 4 city block, 5 chessboard or 6 chamfer.
+fn draft_board(engine: u16)
+    requires { ⌜ (4 ≤ engine) × (engine ≤ 6) ⌝ }
+{
+    let sheet = [0, 0, 0, 1, 0, 0, 0, 0, 0, 0, 1, 0, 1, 0, 0, 0];
+    let mut values = [0u16; 16];
+    let side = chamfer::side_weight(engine);
+    let corner = chamfer::corner_weight(engine);
+    chamfer::chamfer(&sheet, &mut values, 4, 4, side, corner);
+    show_values(&values, 4, 4);
+    text(b"\n");
+}
+
 // ---- the exact map
 
 // One sheet.
@@ -263,13 +310,16 @@ fn say(answer: u32) {
 fn readme() {
     let mut sheet = [0u8; 16];
     let mut map = [0i16; 32];
+    let mut values = [0u16; 16];
     let mut scratch = [0i16; 16];
     let opened = Session::fresh().open_sheet(&mut sheet, 4, 4);
     let painted = opened.session.paint(&mut sheet, 3, 0, 1, 1);
-    let built = painted.session.build(&sheet, &mut map, &mut scratch, 1);
+    let built = painted
+        .session
+        .build(&sheet, &mut map, &mut values, &mut scratch, 1);
     show_map(&map, 4, 4);
-    say(built.session.place(&map, 0, 0, 8).answer);
-    say(built.session.place(&map, 0, 0, 9).answer);
+    say(built.session.place(&map, &values, 0, 0, 8).answer);
+    say(built.session.place(&map, &values, 0, 0, 9).answer);
 }
 
 fn main() {
@@ -277,6 +327,9 @@ fn main() {
     scanned_corner();
     scanned_lines();
     scanned_bare();
+    draft_board(4);
+    draft_board(5);
+    draft_board(6);
     exact_board();
     exact_row(1, 0);
     exact_row(1, 1);

@@ -11,6 +11,7 @@ use native.Mathlib.Decide.{decLe, ℕ-discrete}
 use native.Mathlib.Nat.{le-trans, mul-le-mul-left}
 use native.Mathlib.Omega.{arith}
 use lib.ListN.{getD}
+use borrow.Author.Tests.{ne-eqb, eqb-false}
 use Rattle.raster.specs.Limits.{maxSide}
 use Rattle.raster.specs.Pixels.{Mask, index}
 use Rattle.raster.specs.PixelsLaws.{pixels-at}
@@ -20,7 +21,7 @@ use Rattle.raster.specs.Gate.{passes, NearBy}
 use Rattle.raster.specs.GateLaws.{passed-above, failed-within}
 use Rattle.chamfer.specs.Chamfer.{Weights, chamferDistance, noValue, leastBelow, given, value, chamferMap}
 use Rattle.chamfer.specs.ChamferLaws.{wide, turned, distance-small, value-top, value-under, value-over}
-use Rattle.chamfer.specs.Engines.{weights, sideWeight, cornerWeight, gate, fraction}
+use Rattle.chamfer.specs.Engines.{weights, sideWeight, cornerWeight, noValueAt, squareAt, gate, fraction}
 use Rattle.chamfer.proofs.Weights.{allowed}
 
 -- ---- any two weights
@@ -132,18 +133,21 @@ module _ (copper : Mask) (w h e : ℕ) (first : 4 ≤ e) (last : e ≤ 6) where
     pub without-copper : ((i j : ℕ) → Copper copper w h i j → ⊥) → c ≡ noValue
     without-copper none = is-value ∙ value-none _ _ copper w h x y none
 
-    pub with-copper : w ≤ maxSide → h ≤ maxSide → (i j : ℕ) → Copper copper w h i j → c ≤ 65504
-    with-copper wide tall i j k = rw is-value (value-some _ _ copper w h x y (allowed e last) across down wide tall i j k)
+    pub with-copper : w ≤ maxSide → h ≤ maxSide → (i j : ℕ) → Copper copper w h i j → noValueAt map (index w x y) ≡ false
+    with-copper wide tall i j k =
+        let b = value-some (sideWeight e) (cornerWeight e) copper w h x y (allowed e last) across down wide tall i j k in
+        ne-eqb c noValue (λ z. omega (arith, is-value))
 
-    pub gate-safe : (q : ℕ) → passes (gate e) (c * c) q ≡ true → Clear copper w h x y q
+    pub gate-safe : (q : ℕ) → passes (gate e) (squareAt map (index w x y)) q ≡ true → Clear copper w h x y q
     unfolding apart
     gate-safe q p i j k =
         let under : c ≤ dist e (gap x i) (gap y j) = rw is-value (value-under (sideWeight e) (cornerWeight e) copper w h x y i j k) in
         let bound = le-trans (mul-le-mul-left (gate e .den) (square-le under)) (distance-safe e first last (gap x i) (gap y j)) in
         passed-above (gate e) (c * c) q (apart x y i j) bound p
 
-    pub gate-fair : (q : ℕ) → c < noValue → passes (gate e) (c * c) q ≡ false → NearBy (fraction e) copper w h x y q
+    pub gate-fair : (q : ℕ) → noValueAt map (index w x y) ≡ false → passes (gate e) (squareAt map (index w x y)) q ≡ false → NearBy (fraction e) copper w h x y q
     unfolding apart
-    gate-fair q l p =
+    gate-fair q labelled p =
+        let l : c < noValue = omega (arith, eqb-false c noValue labelled, is-value, value-top (sideWeight e) (cornerWeight e) copper w h x y) in
         let g = labelled-given _ _ copper w h x y (rw is-value at l) in
         record { column = g .column; row = g .row; copper = g .on-copper; within = distance-fair e first last (gap x (g .column)) (gap y (g .row)) q (rw (← g .is, ← is-value) (failed-within (gate e) (c * c) q p)) }

@@ -1,4 +1,4 @@
-// The map of chamfer distances (document 02, C-12), for any two weights, and the weights of the three engines that use it.
+// The map of chamfer distances (document 02, C-12), for any two weights, and the weights and gates of the three engines that use it.
 //
 // Two scans over the rows. Scan one goes down: a pixel takes the least candidate of the three beside it in the row above, then of its left neighbour. Scan two goes
 // up: of the three in the row below, then of its right neighbour. What a row takes from the row before is worked out for all its pixels first. No pixel waits for
@@ -6,12 +6,13 @@
 ghost use mathlib.Core.Path.{_≡_};
 ghost use Prim.Native.Nat.{_+_, _*_, _-_, _≤_, _<_, min};
 ghost use lib.ListN.{length, getD};
+ghost use Rattle.raster.specs.Gate.{passes};
 ghost use Rattle.raster.specs.Limits.{maxSide};
 ghost use Rattle.raster.specs.Pixels.{Mask};
 ghost use Rattle.raster.specs.Rows.{RowWritten};
 ghost use Rattle.raster.specs.Sheet.{copperOf};
 ghost use Rattle.chamfer.specs.Chamfer.{Weights, chamferMap};
-ghost use Rattle.chamfer.specs.Engines.{sideWeight, cornerWeight};
+ghost use Rattle.chamfer.specs.Engines.{sideWeight, cornerWeight, noValueAt, squareAt, gate};
 ghost use Rattle.chamfer.specs.Rows.{candidate, fromThree, orCopper, carried, Swept, Halfway, Blank};
 
 // ---- candidates
@@ -178,4 +179,36 @@ pub fn corner_weight(engine: u16) -> u16
     ensures { λ r. ⌜ r ≡ cornerWeight engine ⌝ }
 {
     WEIGHTS[(engine as usize) - 4][1]
+}
+
+// Whether pixel p is unlabelled.
+pub fn no_value_at(values: &[u16], p: usize) -> bool
+    requires { ⌜ p < length (now values) ⌝ }
+    ensures { λ r. ⌜ r ≡ noValueAt (now (values .entry)) p ⌝ }
+{
+    values[p] == 65535
+}
+
+// The size at pixel p, the square of its value.
+pub fn square_at(values: &[u16], p: usize) -> u32
+    requires { ⌜ p < length (now values) ⌝ }
+    ensures { λ r. ⌜ r ≡ squareAt (now (values .entry)) p ⌝ }
+{
+    let c = values[p] as u32;
+    c * c
+}
+
+// A labelled pixel of size a passes a cutter of q.
+pub fn passes_gate(engine: u16, a: u32, q: u32) -> bool
+    ensures { λ r. ⌜ r ≡ passes (gate engine) a q ⌝ }
+{
+    let size = a as usize;
+    let limit = q as usize;
+    if engine == 4 {
+        return 2 * limit < size;
+    }
+    if engine == 5 {
+        return limit < size;
+    }
+    10 * limit < size
 }

@@ -3,14 +3,12 @@
 -- Assumes nothing.
 use mathlib.Core.Path.{_≡_, refl, sym, ap, _∙_}
 use mathlib.Core.Bool.{Bool, true, false, not, _&&_, _||_, or-true, true≢false}
-use mathlib.Core.List.{List}
 use Prim.Native.Nat.{ℕ, zero, suc, _+_, _-_, _*_, _<_, _≤_}
 use native.Mathlib.Decide.{decLt}
 use native.Mathlib.Numerals.{add-one}
 use native.Mathlib.Omega.{arith}
 use lib.Dec.{ltb}
 use lib.IntN.{ℤ, pos, negsuc, _+ℤ_, natAbs}
-use lib.ListN.{length}
 use borrow.Author.Tests.{ltb-false, leb-false, lt-ltb, le-ltb, le-leb, lt-leb}
 use Rattle.raster.specs.Loop.{anyBelow}
 use Rattle.raster.specs.LoopLaws.{any-false}
@@ -18,6 +16,7 @@ use Rattle.raster.specs.Place.{inLine, isPixel}
 use Rattle.raster.specs.Tests.{or-left, or-right}
 use Rattle.cutter.specs.declared.Cutter.{Cutter}
 use Rattle.cutter.specs.Directions.{steps, stepRight, stepDown, placeAfter, leavesSide, columnAfter, rowAfter, walk}
+use Rattle.cutter.specs.Kinds.{Maps, hasPixels}
 use Rattle.cutter.specs.Gates.{leavesSheet, OnSheet}
 use Rattle.cutter.proofs.Signs.{run-stays, between}
 
@@ -122,7 +121,7 @@ module _ (c : Cutter) (d : ℕ) (known : d ≤ 7) (across : c .x < c .width) (do
   reached n e i l = let o = both-earlier n i l (leaves-sheet n ∙ e) in at-pixel i (rw (o .0, o .1))
 
   -- such a run ends on the sheet
-  pub on-sheet : (n : ℕ) {map : List ℤ} → length map ≡ 2 * (c .height * c .width) → leavesSheet c d n ≡ false → OnSheet c map d n
+  pub on-sheet : (n : ℕ) {m : Maps} → hasPixels (c .engine) (c .height * c .width) m ≡ true → leavesSheet c d n ≡ false → OnSheet c m d n
   on-sheet n held e =
       let o = both-earlier n n (omega arith) (leaves-sheet n ∙ e) in
       record {
@@ -136,8 +135,8 @@ module _ (c : Cutter) (d : ℕ) (known : d ≤ 7) (across : c .x < c .width) (do
       }
 
 -- and so does each step on the way
-pub on-the-way : {c : Cutter} {map : List ℤ} {d n i : ℕ} → OnSheet c map d n → i ≤ n → OnSheet c map d i
-on-the-way {c} {map} {d} {n} o l = record {
+pub on-the-way : {c : Cutter} {m : Maps} {d n i : ℕ} → OnSheet c m d n → i ≤ n → OnSheet c m d i
+on-the-way {c} {m} {d} {n} o l = record {
   known = o .known;
   start = o .start;
   end = record {

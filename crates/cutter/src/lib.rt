@@ -1,9 +1,10 @@
-// The cutter (document 01, "Calls", place and run; document 02, C-11): whether it may stand at a pixel of a map, where a run takes it, and how near it comes to
-// copper.
+// The cutter (document 01, "Calls", place and run; document 02, C-11 and C-12): whether it may stand at a pixel of a map of either kind, where a run takes it,
+// and how near it comes to copper.
 ghost use mathlib.Core.Path.{_≡_};
-ghost use mathlib.Core.Bool.{not};
+ghost use mathlib.Core.Bool.{true, not};
 ghost use Prim.Native.Nat.{_-_, _<_, _≤_};
 ghost use Rattle.raster.specs.Gate.{passes};
+ghost use Rattle.cutter.specs.Kinds.{maps, byValues, hasPixels, unlabelledIn, sizeIn};
 ghost use Rattle.cutter.specs.Directions.{stepRight, stepDown, placeAfter, leavesSide, columnAfter, rowAfter};
 ghost use Rattle.cutter.specs.Gates.{knownEngine, gateOf, On, mayStand, OnSheet, cutterAfter, leavesSheet, blocked};
 ghost use Rattle.cutter.specs.Closest.{nearer, closestAt, closestAlong};
@@ -23,6 +24,12 @@ pub struct Cutter {
 pub struct Closest {
     pub met: bool,
     pub size: u32,
+}
+
+// What a map says of a pixel: whether it is unlabelled, and the size.
+struct Seen {
+    unlabelled: bool,
+    size: u32,
 }
 
 // What a look at pixels says: one of them does not pass the cutter; the closest approach with them.
@@ -45,13 +52,23 @@ impl Closest {
 pub fn is_engine(engine: u16) -> bool
     ensures { λ r. ⌜ r ≡ knownEngine engine ⌝ }
 {
-    (1 <= engine) & (engine <= 3)
+    (1 <= engine) & (engine <= 6)
+}
+
+// The kind of its map is values.
+pub fn by_values(engine: u16) -> bool
+    ensures { λ r. ⌜ r ≡ byValues engine ⌝ }
+{
+    (4 <= engine) & (engine <= 6)
 }
 
 // A labelled pixel of size a passes a cutter of q.
 fn passes_gate(engine: u16, a: u32, q: u32) -> bool
     ensures { λ r. ⌜ r ≡ passes (gateOf engine) a q ⌝ }
 {
+    if by_values(engine) {
+        return chamfer::passes_gate(engine, a, q);
+    }
     let size = a as usize;
     let limit = q as usize;
     if engine == 1 {
@@ -75,23 +92,41 @@ fn nearer(closest: Closest, a: u32) -> Closest
     Closest { met: true, size: a }
 }
 
+// Pixel p of the engine's kind of map, which has n pixels.
+fn see(engine: u16, map: &[i16], values: &[u16], p: usize, n: usize) -> Seen
+    requires { ⌜ (hasPixels engine n (maps (now map) (now values)) ≡ true) × (p < n) ⌝ }
+    ensures unlabelled { λ r. ⌜ r .unlabelled ≡ unlabelledIn engine (maps (now (map .entry)) (now (values .entry))) p ⌝ }
+    ensures sized { λ r. ⌜ r .size ≡ sizeIn engine (maps (now (map .entry)) (now (values .entry))) p ⌝ }
+{
+    if by_values(engine) {
+        return Seen {
+            unlabelled: chamfer::no_value_at(values, p),
+            size: chamfer::square_at(values, p),
+        };
+    }
+    Seen {
+        unlabelled: raster::unlabelled_at(map, p),
+        size: raster::size_at(map, p),
+    }
+}
+
 // A look at the pixel under the cutter. An unlabelled one passes, and is no approach.
-pub fn look_at(c: Cutter, map: &[i16], closest: Closest) -> Look
-    requires { ⌜ On c (now map) ⌝ }
-    ensures stopped { λ r. ⌜ r .blocked ≡ not (mayStand c (now (map .entry))) ⌝ }
-    ensures met { λ r. ⌜ r .closest ≡ closestAt c (now (map .entry)) closest ⌝ }
+pub fn look_at(c: Cutter, map: &[i16], values: &[u16], closest: Closest) -> Look
+    requires { ⌜ On c (maps (now map) (now values)) ⌝ }
+    ensures stopped { λ r. ⌜ r .blocked ≡ not (mayStand c (maps (now (map .entry)) (now (values .entry)))) ⌝ }
+    ensures met { λ r. ⌜ r .closest ≡ closestAt c (maps (now (map .entry)) (now (values .entry))) closest ⌝ }
 {
     let p = (c.y as usize) * (c.width as usize) + (c.x as usize);
-    let size = raster::size_at(map, p);
-    if raster::unlabelled_at(map, p) {
+    let seen = see(c.engine, map, values, p, raster::area(c.width, c.height));
+    if seen.unlabelled {
         return Look {
             blocked: false,
             closest,
         };
     }
     Look {
-        blocked: !passes_gate(c.engine, size, c.q),
-        closest: nearer(closest, size),
+        blocked: !passes_gate(c.engine, seen.size, c.q),
+        closest: nearer(closest, seen.size),
     }
 }
 
@@ -184,14 +219,21 @@ pub fn cutter_after(mut c: Cutter, d: u16, n: u16) -> Cutter
 }
 
 // A look at each pixel of a run after its start.
-pub fn look_along(c: Cutter, map: &[i16], d: u16, count: u16, mut closest: Closest) -> Look
-    requires { ⌜ OnSheet c (now map) d count ⌝ }
-    ensures stopped { λ r. ⌜ r .blocked ≡ blocked c (now (map .entry)) d count ⌝ }
-    ensures met { λ r. ⌜ r .closest ≡ closestAlong c (now (map .entry)) d count closest ⌝ }
+pub fn look_along(
+    c: Cutter,
+    map: &[i16],
+    values: &[u16],
+    d: u16,
+    count: u16,
+    mut closest: Closest,
+) -> Look
+    requires { ⌜ OnSheet c (maps (now map) (now values)) d count ⌝ }
+    ensures stopped { λ r. ⌜ r .blocked ≡ blocked c (maps (now (map .entry)) (now (values .entry))) d count ⌝ }
+    ensures met { λ r. ⌜ r .closest ≡ closestAlong c (maps (now (map .entry)) (now (values .entry))) d count closest ⌝ }
 {
     let mut blocked = false;
     for i in 0..count {
-        let look = look_at(cutter_after(c, d, i + 1), map, closest);
+        let look = look_at(cutter_after(c, d, i + 1), map, values, closest);
         blocked = look.blocked | blocked;
         closest = look.closest;
     }

@@ -11,11 +11,11 @@ use lib.IntN.{ℤ, pos, natAbs}
 use borrow.Author.Tests.{leb-true, leb-false, lt-ltb, ltb-true}
 use Rattle.raster.specs.Distance.{Copper}
 use Rattle.raster.specs.Limits.{maxSide}
-use Rattle.raster.specs.Map.{sizeAt, unlabelledAt}
 use Rattle.raster.specs.Pixels.{Mask, index}
 use Rattle.raster.specs.Place.{isPixel}
 use Rattle.raster.specs.Tests.{and-left, and-right}
 use Rattle.raster.specs.VectorLaws.{ends-size}
+use Rattle.cutter.specs.Kinds.{Maps, unlabelledIn, sizeIn}
 use Rattle.cutter.specs.declared.Closest.{Closest}
 use Rattle.cutter.specs.Closest.{unmet, metAt, nearer, closestWith}
 use Rattle.exact.specs.Nearest.{exactMap}
@@ -25,7 +25,7 @@ use Rattle.guarantee.specs.Claims.{Among, Least, none-met, least-met, Ha
 -- ---- the places visited
 
 -- nothing is visited yet
-pub no-approach : {map : List ℤ} {w h : ℕ} → Approach map w h [] unmet
+pub no-approach : {e : ℕ} {m : Maps} {w h : ℕ} → Approach e m w h [] unmet
 no-approach = record { pixels = λ p. elim [ ]; least = none-met (λ x y. elim [ ]) }
 
 -- where nothing was met the size is 0
@@ -39,82 +39,83 @@ all-pixels : (P : (i j : ℕ) → Type 0) {x y : ℕ} (ps : List (ℤ × ℤ)) �
 all-pixels P ps p rest i j (inl e) = rw (← ap (λ (t : ℤ × ℤ). natAbs (t .0)) e, ← ap (λ (t : ℤ × ℤ). natAbs (t .1)) e) p
 all-pixels P ps p rest i j (inr v) = rest i j v
 
-module _ (map : List ℤ) (w x y : ℕ) where
+module _ (e : ℕ) (m : Maps) (w x y : ℕ) where
   abbrev here : ℕ
-  here = sizeAt map (index w x y)
+  here = sizeIn e m (index w x y)
 
   -- n is at most the size of (i, j), if that is labelled
   abbrev AtMost : (n i j : ℕ) → Type 0
-  AtMost n i j = (m : ℕ) → HasSize map w i j m → n ≤ m
+  AtMost n i j = (k : ℕ) → HasSize e m w i j k → n ≤ k
 
   -- the pixel is the least, if it is labelled and none before it is less
-  first-least : {ps : List (ℤ × ℤ)} → unlabelledAt map (index w x y) ≡ false → ((i j : ℕ) → Among (pos i, pos j) ps → AtMost here i j)
-      → Least (HasSize map w) ((pos x, pos y) ∷ ps) (metAt here)
+  first-least : {ps : List (ℤ × ℤ)} → unlabelledIn e m (index w x y) ≡ false → ((i j : ℕ) → Among (pos i, pos j) ps → AtMost here i j)
+      → Least (HasSize e m w) ((pos x, pos y) ∷ ps) (metAt here)
   first-least {ps} u rest =
-      least-met x y here (inl refl) (record { labelled = u; size = refl }) (all-pixels (AtMost here) ps (λ m s. omega (arith, s .size)) rest)
+      least-met x y here (inl refl) (record { labelled = u; size = refl }) (all-pixels (AtMost here) ps (λ k s. omega (arith, s .size)) rest)
 
   -- the least with it, labelled
-  nearer-least : {ps : List (ℤ × ℤ)} {k : Closest} → unlabelledAt map (index w x y) ≡ false
-      → Least (HasSize map w) ps k → Least (HasSize map w) ((pos x, pos y) ∷ ps) (nearer here k)
+  nearer-least : {ps : List (ℤ × ℤ)} {k : Closest} → unlabelledIn e m (index w x y) ≡ false
+      → Least (HasSize e m w) ps k → Least (HasSize e m w) ((pos x, pos y) ∷ ps) (nearer here k)
   unfolding nearer
-  nearer-least u (none-met none) = first-least u (λ i j v m s. absurd (none i j v m s))
+  nearer-least u (none-met none) = first-least u (λ i j v k s. absurd (none i j v k s))
   nearer-least {ps} u (least-met i j n v s least) = go (leb n here) refl
     where
-      go : (t : Bool) → leb n here ≡ t → Least (HasSize map w) ((pos x, pos y) ∷ ps) (cond t (metAt n) (metAt here))
-      go true e = let l = leb-true n here e in least-met i j n (inr v) s (all-pixels (AtMost n) ps (λ m t. omega (arith, t .size, l)) least)
-      go false e = let l = leb-false n here e in first-least u (λ a b o m t. omega (arith, l, least a b o m t))
+      go : (t : Bool) → leb n here ≡ t → Least (HasSize e m w) ((pos x, pos y) ∷ ps) (cond t (metAt n) (metAt here))
+      go true f = let l = leb-true n here f in least-met i j n (inr v) s (all-pixels (AtMost n) ps (λ k t. omega (arith, t .size, l)) least)
+      go false f = let l = leb-false n here f in first-least u (λ a b o k t. omega (arith, l, least a b o k t))
 
   -- with it, labelled or not
   with-least : {ps : List (ℤ × ℤ)} {k : Closest}
-      → Least (HasSize map w) ps k → Least (HasSize map w) ((pos x, pos y) ∷ ps) (closestWith map (index w x y) k)
+      → Least (HasSize e m w) ps k → Least (HasSize e m w) ((pos x, pos y) ∷ ps) (closestWith e m (index w x y) k)
   unfolding closestWith
-  with-least {ps} {k} l = go (unlabelledAt map (index w x y)) refl l
+  with-least {ps} {k} l = go (unlabelledIn e m (index w x y)) refl l
     where
-      go : (t : Bool) → unlabelledAt map (index w x y) ≡ t → {c : Closest} → Least (HasSize map w) ps c
-          → Least (HasSize map w) ((pos x, pos y) ∷ ps) (cond t c (nearer here c))
-      go true u (none-met none) = none-met (all-pixels (λ i j. (n : ℕ) → HasSize map w i j n → ⊥) ps (λ n s. true≢false (sym u ∙ s .labelled)) none)
+      go : (t : Bool) → unlabelledIn e m (index w x y) ≡ t → {c : Closest} → Least (HasSize e m w) ps c
+          → Least (HasSize e m w) ((pos x, pos y) ∷ ps) (cond t c (nearer here c))
+      go true u (none-met none) = none-met (all-pixels (λ i j. (n : ℕ) → HasSize e m w i j n → ⊥) ps (λ n s. true≢false (sym u ∙ s .labelled)) none)
       go true u (least-met i j n v s least) =
-          least-met i j n (inr v) s (all-pixels (AtMost n) ps (λ m t. absurd (true≢false (sym u ∙ t .labelled))) least)
+          least-met i j n (inr v) s (all-pixels (AtMost n) ps (λ k t. absurd (true≢false (sym u ∙ t .labelled))) least)
       go false u c = nearer-least u c
 
   -- and it is a pixel
   pub with-pixel : {h : ℕ} {p : ℤ × ℤ} {ps : List (ℤ × ℤ)} {k : Closest} → x < w → y < h → p ≡ (pos x, pos y)
-      → Approach map w h ps k → Approach map w h (p ∷ ps) (closestWith map (index w x y) k)
+      → Approach e m w h ps k → Approach e m w h (p ∷ ps) (closestWith e m (index w x y) k)
   with-pixel {h} {p} {ps} {k} across down at a = rw at (record { pixels = all; least = with-least (a .least) })
     where
       all : (o : ℤ × ℤ) → Among o ((pos x, pos y) ∷ ps) → isPixel w h o ≡ true
-      all o (inl e) = rw (← e, lt-ltb x w across, lt-ltb y h down)
+      all o (inl f) = rw (← f, lt-ltb x w across, lt-ltb y h down)
       all o (inr v) = a .pixels o v
 
 -- ---- on an exact map
 
-module _ (copper : Mask) (w h : ℕ) (wide : w ≤ maxSide) (tall : h ≤ maxSide) {ps : List (ℤ × ℤ)} {k : Closest} (a : Approach (exactMap copper w h) w h ps k) where
+module _ (copper : Mask) (w h : ℕ) (wide : w ≤ maxSide) (tall : h ≤ maxSide) {m : Maps} (exact-map : m .pairs ≡ exactMap copper w h)
+    {ps : List (ℤ × ℤ)} {k : Closest} (a : Approach 1 m w h ps k) where
   inside : {x y : ℕ} → Among (pos x, pos y) ps → (x < w) × (y < h)
   inside {x} {y} v =
       let e = a .pixels (pos x, pos y) v in
       (ltb-true x w (and-left (ltb x w) _ e), ltb-true y h (and-right (ltb x w) _ e))
 
   -- with copper every pixel has a size
-  has-size : {x y n : ℕ} → Among (pos x, pos y) ps → HasDistance copper w h x y n → HasSize (exactMap copper w h) w x y (sizeAt (exactMap copper w h) (index w x y))
+  has-size : {x y n : ℕ} → Among (pos x, pos y) ps → HasDistance copper w h x y n → HasSize 1 m w x y (sizeIn 1 m (index w x y))
   has-size {x} {y} v d =
       let i = inside v in
-      record { labelled = exact.with-copper copper w h wide tall x y (i .0) (i .1) (d .column) (d .row) (d .on-copper); size = refl }
+      record { labelled = rw exact-map (exact.with-copper copper w h wide tall x y (i .0) (i .1) (d .column) (d .row) (d .on-copper)); size = refl }
 
   -- the least size is the least squared distance to copper
   pub least-distance : Least (HasDistance copper w h) ps k
   least-distance = go (a .least)
     where
-      go : {c : Closest} → Least (HasSize (exactMap copper w h) w) ps c → Least (HasDistance copper w h) ps c
+      go : {c : Closest} → Least (HasSize 1 m w) ps c → Least (HasDistance copper w h) ps c
       go (none-met none) = none-met (λ x y v n d. none x y v _ (has-size v d))
       go (least-met x y n v s least) =
           let i = inside v in
-          let t = exact.ends-on-copper copper w h wide tall x y (i .0) (i .1) (s .labelled) in
-          least-met x y n v (record { column = t .column; row = t .row; on-copper = t .on-copper; distance = sym (ends-size (t .ends)) ∙ s .size })
-          (λ c r u m d.
+          let t = exact.ends-on-copper copper w h wide tall x y (i .0) (i .1) (rw exact-map at (s .labelled)) in
+          least-met x y n v (record { column = t .column; row = t .row; on-copper = t .on-copper; distance = sym (ends-size (t .ends)) ∙ (rw exact-map at (s .size)) })
+          (λ c r u o d.
           let j = inside u in
           omega (
             arith,
-            least c r u _ (has-size u d),
+            rw exact-map at (least c r u _ (has-size u d)),
             exact.least copper w h wide tall c r (j .0) (j .1) (d .column) (d .row) (d .on-copper),
             d .distance,
           ))

@@ -1,7 +1,7 @@
 -- What holds between two calls of a list: session and sheet agree with the board, the session is sound, a current map is its engine's map of the sheet, a
 -- lowered cutter stands free of copper, and the closest approach is recorded. And what a gate says then, and an exact map.
 -- Assumes nothing.
-use mathlib.Core.Path.{_≡_, sym, subst, _∙_}
+use mathlib.Core.Path.{_≡_, refl, sym, subst, _∙_}
 use mathlib.Core.Bool.{true, false, not}
 use Prim.Native.Nat.{ℕ, _*_, _<_, _≤_}
 use native.Mathlib.Omega.{arith}
@@ -14,25 +14,24 @@ use Rattle.raster.specs.Sheet.{copperOf}
 use Rattle.cutter.specs.Gates.{passesAt}
 use Rattle.session.specs.declared.Session.{Session}
 use Rattle.session.specs.State.{sound, active}
-use Rattle.session.specs.Maps.{engineMap}
 use Rattle.session.specs.Lists.{World}
 use Rattle.session.proofs.Granted.{Limited, active-limits}
 use Rattle.guarantee.specs.Board.{Board}
 use Rattle.guarantee.specs.Claims.{withinFraction, Close, Agree, Free, Least, HasDistance, Approach}
-use Rattle.guarantee.proofs.Gates.{gate-clear, gate-close, in-fraction}
+use Rattle.guarantee.proofs.Gates.{EngineMap, gate-clear, gate-close, in-fraction}
 use Rattle.guarantee.proofs.Approach.{least-distance, same-least}
 use Rattle.guarantee.proofs.Sound.{current-active, known-engine}
 
 pub record CurrentMap (w : World) : Type 0 where
   pub whole : length (w .sheet) ≡ w .session .height * w .session .width
-  pub map-is : w .map ≡ engineMap (w .session) (w .sheet) (w .session .engine)
+  pub map-is : EngineMap (w .session) (w .sheet) (w .session .engine) (w .maps)
 
 pub record Inv (b : Board) (w : World) : Type 0 where
   pub agree : Agree b w
   pub fine : sound (w .session) ≡ true
   pub built : w .session .current ≡ true → CurrentMap w
   pub stands : w .session .lowered ≡ true → Free w (w .session .x) (w .session .y)
-  pub approach : Approach (w .map) (w .session .width) (w .session .height) (b .visited) (w .session .closest)
+  pub approach : Approach (w .session .engine) (w .maps) (w .session .width) (w .session .height) (b .visited) (w .session .closest)
 
 -- an open sheet has a side other than 0
 pub opens : (s : Session) → active s ≡ true → true ≡ not (eqb (s .width) 0)
@@ -62,25 +61,21 @@ module _ {b : Board} {w : World} (inv : Inv b w) where
     limits : Limited (w .session)
     limits = active-limits (w .session) open-sheet
 
-    engine : (1 ≤ w .session .engine) × (w .session .engine ≤ 3)
+    engine : (1 ≤ w .session .engine) × (w .session .engine ≤ 6)
     engine = known-engine (w .session) (inv .fine) current
 
     -- it passes: all copper of the sheet is above q
-    pub passed-clear : passesAt (w .session .engine) (w .map) (index (w .session .width) x y) q ≡ true
+    pub passed-clear : passesAt (w .session .engine) (w .maps) (index (w .session .width) x y) q ≡ true
         → Clear (copperOf (w .sheet) (w .session .width)) (w .session .width) (w .session .height) x y q
     passed-clear p =
         let m = inv .built current in
-        gate-clear (w .session) (limits .wide) (limits .high) (w .sheet) (m .whole) x y across down (w .session .engine) q
-        (rw (m .map-is) at p)
+        gate-clear (w .session) (limits .wide) (limits .high) (w .sheet) (m .whole) x y across down (w .session .engine) (w .maps) (m .map-is) q p
 
     -- it fails: some copper of the board is within the engine's fraction of q
-    pub failed-close : passesAt (w .session .engine) (w .map) (index (w .session .width) x y) q ≡ false → Close b q x y
+    pub failed-close : passesAt (w .session .engine) (w .maps) (index (w .session .width) x y) q ≡ false → Close b q x y
     failed-close p =
         let m = inv .built current in
-        let n =
-        gate-close (w .session) (limits .wide) (limits .high) (w .sheet) (m .whole) x y across down (w .session .engine) q
-        (rw (m .map-is) at p)
-        in
+        let n = gate-close (w .session) (limits .wide) (limits .high) (w .sheet) (m .whole) x y across down (w .session .engine) (w .maps) (m .map-is) q p in
         record {
           column = n .column;
           row = n .row;
@@ -98,6 +93,6 @@ module _ {b : Board} {w : World} (inv : Inv b w) where
       let current : s .current ≡ true = rw exact at (inv .agree .current) in
       let l = active-limits s (current-active s (inv .fine) current) in
       let e = inv .agree .engine ∙ exact in
+      let pairs = rw e at (inv .built current .map-is .pairs) in
       same-least (λ i j. on-board) (λ i j. on-sheet)
-      (least-distance (copperOf (w .sheet) (s .width)) (s .width) (s .height) (l .wide) (l .high)
-      (rw (inv .built current .map-is, e) at (inv .approach)))
+      (least-distance (copperOf (w .sheet) (s .width)) (s .width) (s .height) (l .wide) (l .high) (pairs refl) (rw e at (inv .approach)))

@@ -42,11 +42,11 @@ module _ (s : Session) (fine : sound s ≡ true) where
       go false o = absurd (true≢false (sym c ∙ not-true _ (and-right (eqb (s .height) 0) _ (and-right (eqb (s .width) 0) _ (rw o at sheet-part)))))
 
   -- and a known engine
-  pub known-engine : s .current ≡ true → (1 ≤ s .engine) × (s .engine ≤ 3)
+  pub known-engine : s .current ≡ true → (1 ≤ s .engine) × (s .engine ≤ 6)
   unfolding mapSound
   known-engine c =
-      let e : leb 1 (s .engine) && leb (s .engine) 3 ≡ true = rw c at map-part in
-      (leb-true 1 (s .engine) (and-left (leb 1 (s .engine)) _ e), leb-true (s .engine) 3 (and-right (leb 1 (s .engine)) _ e))
+      let e : leb 1 (s .engine) && leb (s .engine) 6 ≡ true = rw c at map-part in
+      (leb-true 1 (s .engine) (and-left (leb 1 (s .engine)) _ e), leb-true (s .engine) 6 (and-right (leb 1 (s .engine)) _ e))
 
   pub up-sound : sound (upOf s) ≡ true
   unfolding sound sheetSound mapSound cutterSound closestSound

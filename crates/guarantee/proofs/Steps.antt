@@ -18,6 +18,7 @@ use Rattle.raster.specs.Tests.{and-left}
 use Rattle.raster.specs.Sheet.{copperOf, bare, inRectangle}
 use Rattle.raster.specs.Map.{unmapped}
 use Rattle.raster.specs.Refusal.{firstOf}
+use Rattle.cutter.specs.Kinds.{Maps, maps}
 use Rattle.cutter.specs.declared.Closest.{Closest}
 use Rattle.cutter.specs.Closest.{unmet, closestAt, closestAlong}
 use Rattle.cutter.specs.Directions.{walk, columnAfter, rowAfter}
@@ -25,7 +26,7 @@ use Rattle.cutter.specs.Gates.{cutterAfter, mayStand, blocked}
 use Rattle.cutter.proofs.Walk.{reached, on-the-way}
 use Rattle.session.specs.declared.Session.{Session}
 use Rattle.session.specs.State.{sound, active, cutterUp, stale, builtBy, recorded, cutterOf, ownCutter}
-use Rattle.session.specs.Maps.{engineMap}
+use Rattle.session.specs.Maps.{mapsBuilt}
 use Rattle.session.specs.Refusals.{openTable, fillTable, buildTable, buildTableBy, placeRows, placeTable, runRows, runTable, resizeTable, resizeTableBy, readTable}
 use Rattle.session.specs.Calls.{filledBy, runSession}
 use Rattle.session.specs.Lists.{Lent, Call, opening, paint, erase, build, place, run, lift, expand, shrink, skeleton, rebuild, aside, World, world, lentTo, tableOf, answer, left, worldAfter}
@@ -75,11 +76,11 @@ module _ (P : (x y q : ℕ) → Type 0) where
 abbrev upOver : (x y engine : ℕ) (current : Bool) → Session
 upOver x y e c = cutterUp true x y c e unmet
 
-up-inv : (x y e : ℕ) (c : Bool) (copper : Mask) (sheet : List ℕ) (map : List ℤ) → sound (upOver x y e c) ≡ true → c ≡ not (eqb e 0)
+up-inv : (x y e : ℕ) (c : Bool) (copper : Mask) (sheet : List ℕ) (m : Maps) → sound (upOver x y e c) ≡ true → c ≡ not (eqb e 0)
     → ((i j : ℕ) → i < x → j < y → copperOf sheet x i j ≡ copper i j)
-    → (c ≡ true → CurrentMap (world (upOver x y e c) sheet map))
-    → Inv (boardOf x y copper e) (world (upOver x y e c) sheet map)
-up-inv x y e c copper sheet map fine known same built = record {
+    → (c ≡ true → CurrentMap (world (upOver x y e c) sheet m))
+    → Inv (boardOf x y copper e) (world (upOver x y e c) sheet m)
+up-inv x y e c copper sheet m fine known same built = record {
   agree = record { width = refl; height = refl; engine = refl; cutter = refl; opened = opens (upOver x y e c) fine; current = known; copper = same };
   fine = fine;
   built = built;
@@ -115,12 +116,12 @@ module _ {b : Board} {w : World} (inv : Inv b w) where
       step-holds c (λ e. ((λ x y q v. absurd (still x y q v)), when-done e)) (λ e. absurd (never 34 (tableOf c w) refl no-34 e))
 
   -- the session is stale, the board has the sheet's new copper
-  stale-inv : active s ≡ true → (sheet : List ℕ) (map : List ℤ) (copper : Mask)
+  stale-inv : active s ≡ true → (sheet : List ℕ) (m : Maps) (copper : Mask)
       → ((i j : ℕ) → i < s .width → j < s .height → copperOf sheet (s .width) i j ≡ copper i j)
-      → Inv (recoppered copper b) (world (stale s) sheet map)
-  stale-inv open-sheet sheet map copper new =
+      → Inv (recoppered copper b) (world (stale s) sheet m)
+  stale-inv open-sheet sheet m copper new =
       rw (← inv .agree .width, ← inv .agree .height)
-      (up-inv (s .width) (s .height) 0 false copper sheet map (stale-sound s open-sheet) refl new (λ e. absurd (true≢false (sym e))))
+      (up-inv (s .width) (s .height) 0 false copper sheet m (stale-sound s open-sheet) refl new (λ e. absurd (true≢false (sym e))))
 
   -- ---- open
 
@@ -130,7 +131,7 @@ module _ {b : Board} {w : World} (inv : Inv b w) where
       quiet-step (opening x y o) refl (λ a c q. elim [ ])
       (λ e.
       let g = open-granted (lentTo o w .sheet) x y e in
-      up-inv x y 0 false (λ i j. false) (bare (lentTo o w .sheet)) (lentTo o w .map) (open-sound x y (g .0)) refl
+      up-inv x y 0 false (λ i j. false) (bare (lentTo o w .sheet)) (lentTo o w .maps) (open-sound x y (g .0)) refl
       (λ i j k l. bare-copper x y i j k l (lentTo o w .sheet) (g .1)) (λ c. absurd (true≢false (sym c))))
 
   -- ---- paint and erase
@@ -146,9 +147,9 @@ module _ {b : Board} {w : World} (inv : Inv b w) where
   module _ (x y cols rows : ℕ) where
     fill-inv : (v : ℕ) (copper : Mask) → ((i j : ℕ) → cond (inRectangle x y cols rows i j) (not (eqb v 0)) (b .copper i j) ≡ copper i j)
         → firstOf (fillTable s (w .sheet) x y cols rows) ≡ 0
-        → Inv (recoppered copper b) (world (stale s) (filledBy s x y cols rows v (w .sheet)) (w .map))
+        → Inv (recoppered copper b) (world (stale s) (filledBy s x y cols rows v (w .sheet)) (w .maps))
     fill-inv v copper rule e =
-        stale-inv (fill-granted s (w .sheet) x y cols rows refl e .open-sheet) _ (w .map) copper
+        stale-inv (fill-granted s (w .sheet) x y cols rows refl e .open-sheet) _ (w .maps) copper
         (λ i j k l. filled-copper (s .width) (s .height) i j k l x y cols rows v (w .sheet) ∙ rw (same i j k l) (rule i j))
 
     pub paint-step : StepHolds (paint x y cols rows) b w
@@ -167,10 +168,10 @@ module _ {b : Board} {w : World} (inv : Inv b w) where
 
   module _ (q : ℕ) (scratch : List ℤ) where
     resize-inv : (sheet : List ℕ) (copper : Mask) → ((i j : ℕ) → i < s .width → j < s .height → copperOf sheet (s .width) i j ≡ copper i j)
-        → firstOf (resizeTable s (w .sheet) (w .map) scratch q) ≡ 0
-        → Inv (recoppered copper b) (world (stale s) sheet (unmapped (w .map)))
+        → firstOf (resizeTable s (w .sheet) (w .maps .pairs) scratch q) ≡ 0
+        → Inv (recoppered copper b) (world (stale s) sheet (maps (unmapped (w .maps .pairs)) (w .maps .values)))
     resize-inv sheet copper new e =
-        stale-inv (resize-granted s (w .sheet) (w .map) scratch q refl e .open-sheet) sheet (unmapped (w .map)) copper new
+        stale-inv (resize-granted s (w .sheet) (w .maps .pairs) scratch q refl e .open-sheet) sheet _ copper new
 
     pub expand-step : StepHolds (expand q scratch) b w
     unfolding resizeTable resizeTableBy
@@ -202,17 +203,17 @@ module _ {b : Board} {w : World} (inv : Inv b w) where
   -- ---- build
 
   module _ (e : ℕ) (scratch : List ℤ) where
-    built-inv : Building s (w .sheet) (w .map) scratch e → Inv (done (build e scratch) b) (world (builtBy e s) (w .sheet) (engineMap s (w .sheet) e))
+    built-inv : Building s (w .sheet) (w .maps) scratch e → Inv (done (build e scratch) b) (world (builtBy e s) (w .sheet) (mapsBuilt s (w .sheet) e (w .maps)))
     built-inv g =
         rw (← inv .agree .width, ← inv .agree .height)
-        (up-inv (s .width) (s .height) e true (b .copper) (w .sheet) (engineMap s (w .sheet) e) (built-sound s (g .open-sheet) e (g .known))
+        (up-inv (s .width) (s .height) e true (b .copper) (w .sheet) (mapsBuilt s (w .sheet) e (w .maps)) (built-sound s (g .open-sheet) e (g .known))
         (rw (ne-eqb e 0 (omega (arith, leb-true 1 e (and-left (leb 1 e) _ (g .known)))))) same
-        (λ c. record { whole = g .held; map-is = refl }))
+        (λ c. record { whole = g .held; map-is = record { pairs = λ k. rw k refl; values = λ k. rw k refl } }))
 
     pub build-step : StepHolds (build e scratch) b w
     unfolding buildTable buildTableBy
     build-step =
-        quiet-step (build e scratch) refl (λ a c q. elim [ ]) (λ p. built-inv (build-granted s (w .sheet) (w .map) scratch e refl p))
+        quiet-step (build e scratch) refl (λ a c q. elim [ ]) (λ p. built-inv (build-granted s (w .sheet) (w .maps) scratch e refl p))
 
   -- ---- lift, place and run: the cutter and its closest approach alone change
 
@@ -222,8 +223,8 @@ module _ {b : Board} {w : World} (inv : Inv b w) where
   cutter-inv : (l : Bool) (x y q : ℕ) (closest : Closest) (k : BoardCutter) (visited : List (ℤ × ℤ)) → let t = cutterAs l x y q closest in
       SameCutter k t → sound t ≡ true
       → (l ≡ true → Clear (copperOf (w .sheet) (s .width)) (s .width) (s .height) x y q)
-      → Approach (w .map) (s .width) (s .height) visited closest
-      → Inv (withCutter k visited b) (world t (w .sheet) (w .map))
+      → Approach (s .engine) (w .maps) (s .width) (s .height) visited closest
+      → Inv (withCutter k visited b) (world t (w .sheet) (w .maps))
   cutter-inv l x y q closest k visited as-said fine clear approach = record {
     agree = record {
       width = inv .agree .width;
@@ -235,7 +236,7 @@ module _ {b : Board} {w : World} (inv : Inv b w) where
       copper = same;
     };
     fine = fine;
-    built = λ c. let m = inv .built c in record { whole = m .whole; map-is = m .map-is };
+    built = λ c. let m = inv .built c in record { whole = m .whole; map-is = record { pairs = m .map-is .pairs; values = m .map-is .values } };
     stands = clear;
     approach = approach;
   }
@@ -251,7 +252,7 @@ module _ {b : Board} {w : World} (inv : Inv b w) where
   place-step x y q =
       step-holds (place x y q)
       (λ e.
-      let r = place-done s (w .map) x y q e in
+      let r = place-done s (w .maps) x y q e in
       let g = r .0 in
       let free = passed-clear inv (g .open-sheet) (g .current) x y q (g .across) (g .down) (r .1) in (
         at-pixel (λ i j p. Clear (b .copper) (b .width) (b .height) i j p) x y q (above inv q x y free),
@@ -259,7 +260,7 @@ module _ {b : Board} {w : World} (inv : Inv b w) where
             (down-sound s (inv .fine) x y q _ (one-none (met g .least)) (g .current) (g .across) (g .down) (g .small)) (λ l. free) (met g),
       ))
       (λ e.
-      let r = place-stopped s (w .map) x y q e in
+      let r = place-stopped s (w .maps) x y q e in
       let g = r .0 in record {
         x = x;
         y = y;
@@ -268,20 +269,20 @@ module _ {b : Board} {w : World} (inv : Inv b w) where
         close = failed-close inv (g .open-sheet) (g .current) x y q (g .across) (g .down) (r .1);
       })
     where
-      met : Placing s (w .map) x y q → Approach (w .map) (s .width) (s .height) ((pos x, pos y) ∷ []) (closestAt (cutterOf s x y q) (w .map) unmet)
-      met g = with-pixel (w .map) (s .width) x y (g .across) (g .down) refl no-approach
+      met : Placing s (w .maps) x y q → Approach (s .engine) (w .maps) (s .width) (s .height) ((pos x, pos y) ∷ []) (closestAt (cutterOf s x y q) (w .maps) unmet)
+      met g = with-pixel (s .engine) (w .maps) (s .width) x y (g .across) (g .down) refl no-approach
 
   module _ (d n : ℕ) where
     -- the cutter may stand where i steps end
     abbrev free : ℕ → Bool
-    free i = mayStand (cutterAfter d i (ownCutter s)) (w .map)
+    free i = mayStand (cutterAfter d i (ownCutter s)) (w .maps)
 
     -- single steps lead to the pixels that the code works out
-    steps-reach : RunGranted s (w .map) d n → (i : ℕ) → i ≤ n → walk d i (pos (s .x), pos (s .y)) ≡ (pos (columnAfter d i (s .x)), pos (rowAfter d i (s .y)))
+    steps-reach : RunGranted s (w .maps) d n → (i : ℕ) → i ≤ n → walk d i (pos (s .x), pos (s .y)) ≡ (pos (columnAfter d i (s .x)), pos (rowAfter d i (s .y)))
     steps-reach g i high = reached (ownCutter s) d (g .on .known) (g .cutter .across) (g .cutter .down) n (g .inside) i high
 
     -- each step of a run that is done ends free of copper
-    frees : RunGranted s (w .map) d n → blocked (ownCutter s) (w .map) d n ≡ false → (i x y : ℕ) → 1 ≤ i → i ≤ n
+    frees : RunGranted s (w .maps) d n → blocked (ownCutter s) (w .maps) d n ≡ false → (i x y : ℕ) → 1 ≤ i → i ≤ n
         → walk d i (pos (s .x), pos (s .y)) ≡ (pos x, pos y) → Free w x y
     unfolding blocked
     frees g none i x y low high at =
@@ -293,13 +294,13 @@ module _ {b : Board} {w : World} (inv : Inv b w) where
         rw (← ap (λ (t : ℤ × ℤ). natAbs (t .0)) e, ← ap (λ (t : ℤ × ℤ). natAbs (t .1)) e)
         (passed-clear inv (g .open-sheet) (g .cutter .current) (columnAfter d i (s .x)) (rowAfter d i (s .y)) (s .q) (o .end .across) (o .end .down) p)
 
-    run-safe : RunGranted s (w .map) d n → blocked (ownCutter s) (w .map) d n ≡ false → Safe (run d n) b
+    run-safe : RunGranted s (w .maps) d n → blocked (ownCutter s) (w .maps) d n ≡ false → Safe (run d n) b
     run-safe g none = at-steps (λ x y q. Clear (b .copper) (b .width) (b .height) x y q) d n (λ start q k i x y low high at.
         let c = subst (λ (t : BoardCutter). SameCutter t s) k (inv .agree .cutter) in
         rw (← c .1 .1) (above inv (s .q) x y (frees g none i x y low high (rw (← c .1 .0) at))))
 
     -- one that is stopped has a step that ends too near to copper
-    stopped : (k : BoardCutter) → b .cutter ≡ k → SameCutter k s → RunGranted s (w .map) d n → blocked (ownCutter s) (w .map) d n ≡ true → Fair (run d n) b
+    stopped : (k : BoardCutter) → b .cutter ≡ k → SameCutter k s → RunGranted s (w .maps) d n → blocked (ownCutter s) (w .maps) d n ≡ true → Fair (run d n) b
     unfolding blocked
     stopped up c e g p = absurd (true≢false (sym (g .lowered) ∙ e))
     stopped (down start q) c (l, (a, e)) g p =
@@ -316,29 +317,29 @@ module _ {b : Board} {w : World} (inv : Inv b w) where
           close = rw (← e) (failed-close inv (g .open-sheet) (g .cutter .current) x y (s .q) (o .end .across) (o .end .down) (not-true _ (f .passes)));
         }
 
-    moves : RunGranted s (w .map) d n → (k : BoardCutter) → SameCutter k s → SameCutter (cutterRun d n k) (runSession s (w .map) d n)
+    moves : RunGranted s (w .maps) d n → (k : BoardCutter) → SameCutter k s → SameCutter (cutterRun d n k) (runSession s (w .maps) d n)
     moves g up e = absurd (true≢false (sym (g .lowered) ∙ e))
     moves g (down p q) (l, (a, e)) = (refl, (ap (walk d n) a ∙ steps-reach g n (omega arith), e))
 
     -- the closest approach with the pixels of its first i steps
-    meets : RunGranted s (w .map) d n → (i : ℕ) → i ≤ n
-        → Approach (w .map) (s .width) (s .height) (toolPath d i (pos (s .x), pos (s .y)) ++ b .visited) (closestAlong (ownCutter s) (w .map) d i (s .closest))
+    meets : RunGranted s (w .maps) d n → (i : ℕ) → i ≤ n
+        → Approach (s .engine) (w .maps) (s .width) (s .height) (toolPath d i (pos (s .x), pos (s .y)) ++ b .visited) (closestAlong (ownCutter s) (w .maps) d i (s .closest))
     unfolding toolPath closestAlong ascend
     meets g zero l = inv .approach
     meets g (suc i) l =
         let o = on-the-way (g .on) l in
         rw (add-one i)
-        (with-pixel (w .map) (s .width) (columnAfter d (suc i) (s .x)) (rowAfter d (suc i) (s .y)) (o .end .across) (o .end .down)
+        (with-pixel (s .engine) (w .maps) (s .width) (columnAfter d (suc i) (s .x)) (rowAfter d (suc i) (s .y)) (o .end .across) (o .end .down)
         (steps-reach g (suc i) l) (meets g i (omega arith)))
 
     -- with those of the board's run
-    met-by : RunGranted s (w .map) d n → (k : BoardCutter) → SameCutter k s
-        → Approach (w .map) (s .width) (s .height) (toolPathOf d n k ++ b .visited) (closestAlong (ownCutter s) (w .map) d n (s .closest))
+    met-by : RunGranted s (w .maps) d n → (k : BoardCutter) → SameCutter k s
+        → Approach (s .engine) (w .maps) (s .width) (s .height) (toolPathOf d n k ++ b .visited) (closestAlong (ownCutter s) (w .maps) d n (s .closest))
     met-by g up e = absurd (true≢false (sym (g .lowered) ∙ e))
     met-by g (down p q) (l, (a, e)) = rw a (meets g n (omega arith))
 
     -- where the run ends
-    ends-free : RunGranted s (w .map) d n → blocked (ownCutter s) (w .map) d n ≡ false → Free w (columnAfter d n (s .x)) (rowAfter d n (s .y))
+    ends-free : RunGranted s (w .maps) d n → blocked (ownCutter s) (w .maps) d n ≡ false → Free w (columnAfter d n (s .x)) (rowAfter d n (s .y))
     ends-free g none = frees g none n _ _ (g .steps) (omega arith) (steps-reach g n (omega arith))
 
     pub run-step : StepHolds (run d n) b w
@@ -346,7 +347,7 @@ module _ {b : Board} {w : World} (inv : Inv b w) where
     run-step =
         step-holds (run d n)
         (λ e.
-        let r = run-done s (w .map) d n e in
+        let r = run-done s (w .maps) d n e in
         let g = r .0 in
         let x = columnAfter d n (s .x) in
         let y = rowAfter d n (s .y) in
@@ -356,7 +357,7 @@ module _ {b : Board} {w : World} (inv : Inv b w) where
               (down-sound s (inv .fine) x y (s .q) _ (one-none (a .least)) (g .cutter .current) (g .on .end .across) (g .on .end .down) (g .cutter .small))
               (λ l. ends-free g (r .1)) a,
         ))
-        (λ e. let r = run-stopped s (w .map) d n e in stopped (b .cutter) refl (inv .agree .cutter) (r .0) (r .1))
+        (λ e. let r = run-stopped s (w .maps) d n e in stopped (b .cutter) refl (inv .agree .cutter) (r .0) (r .1))
 
-    pub run-free : firstOf (runTable s (w .map) d n) ≡ 0 → (i x y : ℕ) → 1 ≤ i → i ≤ n → walk d i (pos (s .x), pos (s .y)) ≡ (pos x, pos y) → Free w x y
-    run-free e = let r = run-done s (w .map) d n e in frees (r .0) (r .1)
+    pub run-free : firstOf (runTable s (w .maps) d n) ≡ 0 → (i x y : ℕ) → 1 ≤ i → i ≤ n → walk d i (pos (s .x), pos (s .y)) ≡ (pos x, pos y) → Free w x y
+    run-free e = let r = run-done s (w .maps) d n e in frees (r .0) (r .1)

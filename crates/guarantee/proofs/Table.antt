@@ -1,4 +1,4 @@
--- M1 to M9 and the boards of C-14 and C-16 hold, computed from the definitions.
+-- M1 to M9 and the boards of C-12, C-14 and C-16 hold, computed from the definitions.
 -- Assumes nothing.
 use mathlib.Core.Path.{refl}
 use Rattle.raster.specs.Distance.{gap, apart}
@@ -11,6 +11,8 @@ use Rattle.raster.specs.Sheet.{copperOf}
 use Rattle.raster.specs.Vector.{size, replaces}
 use Rattle.candidate.specs.Candidate.{offer}
 use Rattle.scan.specs.Scan.{seeds, rightward, leftward, fromThree, fromRow, scanned}
+use Rattle.chamfer.specs.Chamfer.{chamferDistance, leastBelow, value, chamferMap}
+use Rattle.chamfer.specs.Engines.{weights}
 use Rattle.exact.specs.Nearest.{nearest, exactMap}
 use Rattle.morphology.specs.Resize.{near, stepsOff, shrunk}
 use Rattle.rebuild.specs.Rebuild.{covered, rebuilt}
@@ -18,10 +20,10 @@ use Rattle.skeleton.specs.Table.{least, g}
 use Rattle.skeleton.specs.Skeleton.{takenBy, removed, skeletonOf}
 use Rattle.radius.specs.Radius.{measurable, radiusAnswer, radiusQ}
 use Rattle.cutter.specs.Gates.{passesAt}
-use Rattle.guarantee.specs.Table.{four, three, ends, corner, full, middle, Marked, m1, m2, m3, m4, m5, m6, m7, m8, m9, c14, c16, Says}
+use Rattle.guarantee.specs.Table.{four, three, ends, corner, full, middle, Marked, m1, m2, m3, m4, m5, m6, m7, m8, m9, c12, c14, c16, Says}
 
 pub boards : (m : Marked) → Says m
-unfolding four three ends corner full middle shrunk near stepsOff exactMap vectors tabulate pixels nearest ascend descend anyBelow apart gap size copperOf scanned fromRow fromThree rightward leftward seeds offer replaces put passesAt passes g least skeletonOf removed takenBy rebuilt covered radiusQ radiusAnswer measurable firstOf
+unfolding four chamferMap value leastBelow chamferDistance weights three ends corner full middle shrunk near stepsOff exactMap vectors tabulate pixels nearest ascend descend anyBelow apart gap size copperOf scanned fromRow fromThree rightward leftward seeds offer replaces put passesAt passes g least skeletonOf removed takenBy rebuilt covered radiusQ radiusAnswer measurable firstOf
 boards m1 = (refl, (refl, (refl, (refl, refl))))
 boards m2 = (refl, refl)
 boards m3 = (refl, refl)
@@ -31,5 +33,6 @@ boards m6 = (refl, refl)
 boards m7 = (refl, refl)
 boards m8 = (refl, (refl, (refl, refl)))
 boards m9 = (refl, refl)
+boards c12 = ((refl, (refl, refl)), ((refl, (refl, refl)), (refl, (refl, refl))))
 boards c14 = (refl, refl)
 boards c16 = (refl, refl)

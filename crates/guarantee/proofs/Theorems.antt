@@ -6,7 +6,7 @@ use mathlib.Core.Bool.{true≢false}
 use mathlib.Core.List.{List, [], _∷_}
 use Prim.Native.Nat.{ℕ}
 use native.Mathlib.Omega.{arith}
-use lib.IntN.{ℤ}
+use Rattle.cutter.specs.Kinds.{Maps}
 use Rattle.session.specs.State.{fresh, closestSound, cutterSound, mapSound, sheetSound, sound}
 use Rattle.session.specs.Lists.{Call, opening, paint, erase, build, place, run, lift, expand, shrink, skeleton, rebuild, aside, World, world, leftBy}
 use Rattle.guarantee.specs.Board.{Board, blank}
@@ -45,9 +45,9 @@ step (rebuild m o) inv = rebuild-step inv m o
 step aside inv = aside-step inv
 
 -- at the start
-start : (sheet : List ℕ) (map : List ℤ) → Inv blank (world fresh sheet map)
+start : (sheet : List ℕ) (m : Maps) → Inv blank (world fresh sheet m)
 unfolding sound sheetSound mapSound cutterSound closestSound
-start sheet map = record {
+start sheet m = record {
   agree = record { width = refl; height = refl; engine = refl; cutter = refl; opened = refl; current = refl; copper = λ i j k l. absurd (omega arith) };
   fine = refl;
   built = λ e. absurd (true≢false (sym e));
@@ -61,7 +61,7 @@ holds (c ∷ cs) inv = let s = step c inv in (s .claim, (s .next .agree, holds c
 
 -- whatever list of calls: at every call the claim holds, and after it session and sheet agree with the board
 pub guarantee : Guarantee
-guarantee cs sheet map = holds cs (start sheet map)
+guarantee cs sheet m = holds cs (start sheet m)
 
 -- ---- the workshop's words
 
@@ -76,8 +76,8 @@ left (c ∷ cs) inv = left cs (step c inv .next)
 
 -- whatever list of calls: no lowered cutter stands on or passes a pixel within q of copper
 pub workshop : Workshop
-workshop cs sheet map lowered =
-    let l = left cs (start sheet map) in
+workshop cs sheet m lowered =
+    let l = left cs (start sheet m) in
     (l .inv .stands lowered, λ d n done. run-free (l .inv) d n done)
 
 -- ---- the closest approach
@@ -88,8 +88,8 @@ along P says (c ∷ cs) inv = let s = step c inv in (says _ _ (s .next), along P
 
 -- whatever list of calls: after every call the least size met since the last placing is recorded
 pub closest-approach : ClosestApproach
-closest-approach cs sheet map = along _ (λ b w inv. inv .approach) cs (start sheet map)
+closest-approach cs sheet m = along _ (λ b w inv. inv .approach) cs (start sheet m)
 
 -- on an exact map it is the least true squared distance
 pub true-approach : TrueApproach
-true-approach cs sheet map = along _ (λ b w inv. exact-approach inv) cs (start sheet map)
+true-approach cs sheet m = along _ (λ b w inv. exact-approach inv) cs (start sheet m)

@@ -1,12 +1,12 @@
--- Demand 3: one claim about a whole list of calls, for all lists (document 01, "Lists of calls"); and over the same lists the closest approach (document 02,
--- C-11).
+-- Demand 3: one claim about a whole list of calls, for all lists (document 01, "Lists of calls", and document 02, C-12); and over the same lists the closest
+-- approach (document 02, C-11).
 --   At every call that is done, all of the board's copper is at squared distance above q from every pixel to which the call brings a lowered cutter of q,
 --   those within a run too (`Safe`). After it session and sheet agree with the board (`Agree`). A place or run answered 34 has a pixel that it tests with
 --   copper within the engine's fraction of q (`Fair`). `Guarantee` says so of every list; `Workshop` says it of the session and sheet alone.
 --   After every call the session has recorded the least size, on the current map, of the pixels visited since the last placing that was done
 --   (`ClosestApproach`); on an exact map that is their least true squared distance (`TrueApproach`).
 -- Assumes nothing.
-use mathlib.Core.Bool.{Bool, true, false, cond, not}
+use mathlib.Core.Bool.{Bool, true, false, cond, not, _&&_}
 use mathlib.Core.List.{List, [], _∷_}
 use mathlib.Core.Logic.{_⊎_}
 use mathlib.Core.Path.{_≡_}
@@ -14,10 +14,10 @@ use Prim.Native.Nat.{ℕ, _*_, _<_, _≤_}
 use lib.Dec.{eqb, leb}
 use lib.IntN.{ℤ, pos}
 use Rattle.raster.specs.Distance.{apart, Copper, Clear}
-use Rattle.raster.specs.Map.{sizeAt, unlabelledAt}
 use Rattle.raster.specs.Pixels.{Mask, index}
 use Rattle.raster.specs.Place.{isPixel}
 use Rattle.raster.specs.Sheet.{copperOf}
+use Rattle.cutter.specs.Kinds.{Maps, unlabelledIn, sizeIn}
 use Rattle.cutter.specs.declared.Closest.{Closest}
 use Rattle.cutter.specs.Closest.{unmet, metAt}
 use Rattle.cutter.specs.Directions.{walk}
@@ -40,9 +40,14 @@ pub data Visits : Call → BoardCutter → (x y q : ℕ) → Type 0 where
 abbrev pub Safe : Call → Board → Type 0
 Safe c b = (x y q : ℕ) → Visits c (b .cutter) x y q → Clear (b .copper) (b .width) (b .height) x y q
 
--- squared distance e is at most q on the exact map, at most 169/144 of q on 8SED, at most twice q on 4SED
+-- squared distance e is at most q on the exact map, at most 169/144 of q on 8SED, at most twice q on 4SED, city block and chessboard, at most 5/4 of q on
+-- chamfer
 abbrev pub withinFraction : (engine e q : ℕ) → Bool
-withinFraction n e q = cond (eqb n 1) (leb e q) (cond (eqb n 2) (leb (144 * e) (169 * q)) (cond (eqb n 3) (leb e (2 * q)) false))
+withinFraction n e q =
+    cond (eqb n 1) (leb e q)
+    (cond (eqb n 2) (leb (144 * e) (169 * q))
+    (cond (eqb n 6) (leb (4 * e) (5 * q))
+    (cond (leb 3 n && leb n 5) (leb e (2 * q)) false)))
 
 -- some copper of the board is that near to (x, y)
 pub record Close (b : Board) (q x y : ℕ) : Type 0 where
@@ -89,9 +94,9 @@ ClaimsHold [] b w = Unit {0}
 ClaimsHold (c ∷ cs) b w =
     Claim c (answer c w) b × (Agree (feed c (answer c w) b) (worldAfter c w) × ClaimsHold cs (feed c (answer c w) b) (worldAfter c w))
 
--- the theorem: from a fresh session, whatever sheet and map hold, for every list of calls
+-- the theorem: from a fresh session, whatever sheet and maps hold, for every list of calls
 abbrev pub Guarantee : Type 0
-Guarantee = (cs : List Call) (sheet : List ℕ) (map : List ℤ) → ClaimsHold cs blank (world fresh sheet map)
+Guarantee = (cs : List Call) (sheet : List ℕ) (m : Maps) → ClaimsHold cs blank (world fresh sheet m)
 
 -- ---- for the workshop: session and sheet alone
 
@@ -101,7 +106,7 @@ Free w x y = Clear (copperOf (w .sheet) (w .session .width)) (w .session .width)
 
 -- whatever calls were made: a lowered cutter stands free, and a run that is done passes free pixels only
 abbrev pub Workshop : Type 0
-Workshop = (cs : List Call) (sheet : List ℕ) (map : List ℤ) → let w = leftBy cs (world fresh sheet map) in
+Workshop = (cs : List Call) (sheet : List ℕ) (m : Maps) → let w = leftBy cs (world fresh sheet m) in
     w .session .lowered ≡ true
     → Free w (w .session .x) (w .session .y)
     × ((d n : ℕ) → answer (run d n) w ≡ 0 → (i x y : ℕ) → 1 ≤ i → i ≤ n
@@ -120,10 +125,10 @@ pub data Least (Has : (x y n : ℕ) → Type 0) (visited : List (ℤ × ℤ)) : 
   least-met : (x y n : ℕ) → Among (pos x, pos y) visited → Has x y n
       → ((i j : ℕ) → Among (pos i, pos j) visited → (m : ℕ) → Has i j m → n ≤ m) → Least Has visited (metAt n)
 
--- on a map of w columns the pixel (x, y) is labelled, and n is its size
-pub record HasSize (map : List ℤ) (w x y n : ℕ) : Type 0 where
-  pub labelled : unlabelledAt map (index w x y) ≡ false
-  pub size : sizeAt map (index w x y) ≡ n
+-- on an engine's map of w columns the pixel (x, y) is labelled, and n is its size
+pub record HasSize (engine : ℕ) (m : Maps) (w x y n : ℕ) : Type 0 where
+  pub labelled : unlabelledIn engine m (index w x y) ≡ false
+  pub size : sizeIn engine m (index w x y) ≡ n
 
 -- n is the squared distance of the pixel (x, y) to a copper pixel
 pub record HasDistance (copper : Mask) (w h x y n : ℕ) : Type 0 where
@@ -133,9 +138,9 @@ pub record HasDistance (copper : Mask) (w h x y n : ℕ) : Type 0 where
   pub distance : apart x y column row ≡ n
 
 -- the places visited are pixels, and what is recorded is the least size of those that are labelled
-pub record Approach (map : List ℤ) (w h : ℕ) (visited : List (ℤ × ℤ)) (closest : Closest) : Type 0 where
+pub record Approach (engine : ℕ) (m : Maps) (w h : ℕ) (visited : List (ℤ × ℤ)) (closest : Closest) : Type 0 where
   pub pixels : (p : ℤ × ℤ) → Among p visited → isPixel w h p ≡ true
-  pub least : Least (HasSize map w) visited closest
+  pub least : Least (HasSize engine m w) visited closest
 
 -- something holds after each call of a list
 abbrev pub Along : (P : Board → World → Type 0) → List Call → Board → World → Type 0
@@ -144,10 +149,11 @@ Along P (c ∷ cs) b w = P (feed c (answer c w) b) (worldAfter c w) × Along P c
 
 -- the theorem, over the same lists: the session has recorded the closest approach on the current map
 abbrev pub ClosestApproach : Type 0
-ClosestApproach = (cs : List Call) (sheet : List ℕ) (map : List ℤ)
-    → Along (λ b w. Approach (w .map) (w .session .width) (w .session .height) (b .visited) (w .session .closest)) cs blank (world fresh sheet map)
+ClosestApproach = (cs : List Call) (sheet : List ℕ) (m : Maps)
+    → Along (λ b w. Approach (w .session .engine) (w .maps) (w .session .width) (w .session .height) (b .visited) (w .session .closest)) cs blank
+    (world fresh sheet m)
 
 -- on an exact map that is the least true squared distance of the pixels visited; none without copper
 abbrev pub TrueApproach : Type 0
-TrueApproach = (cs : List Call) (sheet : List ℕ) (map : List ℤ)
-    → Along (λ b w. b .engine ≡ 1 → Least (HasDistance (b .copper) (b .width) (b .height)) (b .visited) (w .session .closest)) cs blank (world fresh sheet map)
+TrueApproach = (cs : List Call) (sheet : List ℕ) (m : Maps)
+    → Along (λ b w. b .engine ≡ 1 → Least (HasDistance (b .copper) (b .width) (b .height)) (b .visited) (w .session .closest)) cs blank (world fresh sheet m)

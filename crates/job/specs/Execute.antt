@@ -7,10 +7,11 @@ use Prim.Native.Nat.{ℕ, _+_, _-_, _*_, _≤_}
 use lib.Dec.{leb}
 use lib.IntN.{ℤ}
 use lib.ListN.{length, take, drop}
+use Rattle.cutter.specs.Kinds.{Maps}
 use Rattle.records.specs.declared.Record.{Record}
 use Rattle.records.specs.Format.{splits, recordsIn, recordsOf}
 use Rattle.records.specs.Text.{textFrom}
-use Rattle.job.specs.Run.{JobState, sheetBuffer, mapBuffer, answerOf, stepped, callsOf, stateAfter, answersOf, reportOf}
+use Rattle.job.specs.Run.{JobState, sheetBuffer, mapBuffers, answerOf, stepped, callsOf, stateAfter, answersOf, reportOf}
 
 -- the first n of a list of k elements
 abbrev pub upto : (n k : ℕ) → ℕ
@@ -36,7 +37,7 @@ pub record JobRunning (job : List ℕ) (start : JobState) (empty : List ℕ) (i 
   pub short : end ≤ 9 * i
 
 -- the buffers are those of the state
-pub record Buffers (b : JobState) (sheet : List ℕ) (map scratch : List ℤ) : Type 0 where
+pub record Buffers (b : JobState) (sheet : List ℕ) (m : Maps) (scratch : List ℤ) : Type 0 where
   pub sheet-left : sheet ≡ sheetBuffer b
-  pub map-left : map ≡ mapBuffer b
+  pub maps-left : m ≡ mapBuffers b
   pub scratch-left : scratch ≡ b .scratch

@@ -15,16 +15,17 @@ use Rattle.raster.specs.Map.{unmapped}
 use Rattle.raster.specs.Refusal.{firstOf}
 use Rattle.raster.specs.Sheet.{bare}
 use Rattle.morphology.specs.Resize.{expanded, shrunk}
+use Rattle.cutter.specs.Kinds.{Maps, maps}
 use Rattle.session.specs.declared.Session.{Session}
 use Rattle.session.specs.declared.Reply.{Reply}
 use Rattle.session.specs.State.{openedAs, stale, builtBy}
-use Rattle.session.specs.Maps.{engineMap}
+use Rattle.session.specs.Maps.{pairsBuilt, valuesBuilt}
 use Rattle.session.specs.Refusals.{openTable, fillTable, buildTable, placeTable, runTable, resizeTable}
 use Rattle.session.specs.Calls.{onDone, filledBy, scratchBy, placeSession, runSession, liftSession}
 use Rattle.session.specs.Lists.{World, world}
 use Rattle.records.specs.declared.Record.the-variants.{Open, Paint, Erase, Build, Place, Run, Lift, Expand, Shrink}
 use Rattle.job.specs.declared.Done.{Done}
-use Rattle.job.specs.Run.{Behind, JobState, jobState}
+use Rattle.job.specs.Run.{mapsUpTo, mapsBehind, mapsWhole, Behind, JobState, jobState}
 use Rattle.job.specs.Execute.{upto, Executed}
 
 -- the first n elements, or all of them
@@ -83,24 +84,37 @@ chosen : {A : Type 0} (f : ℕ → A) (t : Bool) (x y : ℕ) → f (cond t x y) 
 chosen f true x y = refl
 chosen f false x y = refl
 
+-- both parts of the maps, one behind the other
+pub maps-again : (n : ℕ) (m : Maps) → mapsWhole (mapsUpTo n m) (mapsBehind n m) ≡ m
+maps-again n m = rw (take-append-drop (2 * n) (m .pairs), take-append-drop n (m .values))
+
+-- maps whose kinds are chosen are those chosen
+joined-maps : (t : Bool) (p₁ p₂ : List ℤ) (v₁ v₂ : List ℕ) → maps (cond t p₁ p₂) (cond t v₁ v₂) ≡ cond t (maps p₁ v₁) (maps p₂ v₂)
+joined-maps true p₁ p₂ v₁ v₂ = refl
+joined-maps false p₁ p₂ v₁ v₂ = refl
+
+joined-pairs : (t : Bool) (p₁ p₂ : List ℤ) (v : List ℕ) → maps (cond t p₁ p₂) v ≡ cond t (maps p₁ v) (maps p₂ v)
+joined-pairs true p₁ p₂ v = refl
+joined-pairs false p₁ p₂ v = refl
+
 -- a world whose parts are chosen is the one chosen
-joined : (t : Bool) (s₁ s₂ : Session) (a₁ a₂ : List ℕ) (m₁ m₂ : List ℤ)
+joined : (t : Bool) (s₁ s₂ : Session) (a₁ a₂ : List ℕ) (m₁ m₂ : Maps)
     → world (cond t s₁ s₂) (cond t a₁ a₂) (cond t m₁ m₂) ≡ cond t (world s₁ a₁ m₁) (world s₂ a₂ m₂)
 joined true s₁ s₂ a₁ a₂ m₁ m₂ = refl
 joined false s₁ s₂ a₁ a₂ m₁ m₂ = refl
 
--- where sheet or map stay
-joined-sheet : (t : Bool) (s₁ s₂ : Session) (a₁ a₂ : List ℕ) (m : List ℤ) → world (cond t s₁ s₂) (cond t a₁ a₂) m ≡ cond t (world s₁ a₁ m) (world s₂ a₂ m)
-joined-sheet t s₁ s₂ a₁ a₂ m = ap (λ (n : List ℤ). world (cond t s₁ s₂) (cond t a₁ a₂) n) (one t m) ∙ joined t s₁ s₂ a₁ a₂ m m
+-- where sheet or maps stay
+joined-sheet : (t : Bool) (s₁ s₂ : Session) (a₁ a₂ : List ℕ) (m : Maps) → world (cond t s₁ s₂) (cond t a₁ a₂) m ≡ cond t (world s₁ a₁ m) (world s₂ a₂ m)
+joined-sheet t s₁ s₂ a₁ a₂ m = ap (λ (n : Maps). world (cond t s₁ s₂) (cond t a₁ a₂) n) (one t m) ∙ joined t s₁ s₂ a₁ a₂ m m
 
-joined-map : (t : Bool) (s₁ s₂ : Session) (a : List ℕ) (m₁ m₂ : List ℤ) → world (cond t s₁ s₂) a (cond t m₁ m₂) ≡ cond t (world s₁ a m₁) (world s₂ a m₂)
+joined-map : (t : Bool) (s₁ s₂ : Session) (a : List ℕ) (m₁ m₂ : Maps) → world (cond t s₁ s₂) a (cond t m₁ m₂) ≡ cond t (world s₁ a m₁) (world s₂ a m₂)
 joined-map t s₁ s₂ a m₁ m₂ = ap (λ (b : List ℕ). world (cond t s₁ s₂) b (cond t m₁ m₂)) (one t a) ∙ joined t s₁ s₂ a a m₁ m₂
 
-joined-session : (t : Bool) (s₁ s₂ : Session) (a : List ℕ) (m : List ℤ) → world (cond t s₁ s₂) a m ≡ cond t (world s₁ a m) (world s₂ a m)
+joined-session : (t : Bool) (s₁ s₂ : Session) (a : List ℕ) (m : Maps) → world (cond t s₁ s₂) a m ≡ cond t (world s₁ a m) (world s₂ a m)
 joined-session t s₁ s₂ a m = ap (λ (b : List ℕ). world (cond t s₁ s₂) b m) (one t a) ∙ joined-sheet t s₁ s₂ a a m
 
-joined-behind : (t : Bool) (a₁ a₂ : List ℕ) (m₁ m₂ : List ℤ)
-    → _≡_ {A = Behind} (record { sheet = cond t a₁ a₂; map = cond t m₁ m₂ }) (cond t (record { sheet = a₁; map = m₁ }) (record { sheet = a₂; map = m₂ }))
+joined-behind : (t : Bool) (a₁ a₂ : List ℕ) (m₁ m₂ : Maps)
+    → _≡_ {A = Behind} (record { sheet = cond t a₁ a₂; maps = cond t m₁ m₂ }) (cond t (record { sheet = a₁; maps = m₁ }) (record { sheet = a₂; maps = m₂ }))
 joined-behind true a₁ a₂ m₁ m₂ = refl
 joined-behind false a₁ a₂ m₁ m₂ = refl
 
@@ -115,89 +129,95 @@ module _ (s : Session) (n : ℕ) (sheet : List ℕ) where
       → r .pixels ≡ onDone (r .answer) (h * w) n
       → take (r .pixels) left ≡ onDone (r .answer) (bare (take (h * w) sheet)) (take n sheet)
       → drop (r .pixels) left ≡ onDone (r .answer) (drop (h * w) sheet) (drop n sheet)
-      → (map scratch : List ℤ) → Executed (Open w h) (jobState s n sheet map scratch) (r .answer) (jobState (r .session) (r .pixels) left map scratch)
-  open-executed w h r left answer session pixels lent behind map scratch = record {
+      → (m : Maps) (scratch : List ℤ) → Executed (Open w h) (jobState s n sheet m scratch) (r .answer) (jobState (r .session) (r .pixels) left m scratch)
+  open-executed w h r left answer session pixels lent behind m scratch = record {
     answer = rw (take-append-drop n sheet) answer;
     left =
-        rw (take-append-drop n sheet, take-append-drop (2 * n) map, ← answer, session, lent, behind, pixels, and-false (eqb (r .answer) 0))
+        rw (take-append-drop n sheet, take-append-drop (2 * n) (m .pairs), take-append-drop n (m .values), ← answer, session, lent, behind, pixels, and-false (eqb (r .answer) 0))
         (same-state
-        (rw (chosen (λ (k : ℕ). take (2 * k) map) (eqb (r .answer) 0) (h * w) n) (joined (eqb (r .answer) 0) _ _ _ _ _ _))
-        (rw (chosen (λ (k : ℕ). drop (2 * k) map) (eqb (r .answer) 0) (h * w) n) (joined-behind (eqb (r .answer) 0) _ _ _ _))
+        (ap (world _ _) (chosen (λ (k : ℕ). mapsUpTo k m) (eqb (r .answer) 0) (h * w) n) ∙ joined (eqb (r .answer) 0) _ _ _ _ _ _)
+        (ap (λ (b : Maps). record { sheet = cond (eqb (r .answer) 0) (drop (h * w) sheet) (drop n sheet); maps = b }) (chosen (λ (k : ℕ). mapsBehind k m) (eqb (r .answer) 0) (h * w) n)
+        ∙ joined-behind (eqb (r .answer) 0) _ _ _ _)
         refl);
   }
 
   module _ (x y cols rows : ℕ) (r : Reply) (left : List ℕ) (answer : r .answer ≡ firstOf (fillTable s (take n sheet) x y cols rows))
       (session : r .session ≡ onDone (r .answer) (stale s) s) (behind : drop n left ≡ drop n sheet) where
     pub paint-executed : take n left ≡ onDone (r .answer) (filledBy s x y cols rows 1 (take n sheet)) (take n sheet)
-        → (map scratch : List ℤ) → Executed (Paint x y cols rows) (jobState s n sheet map scratch) (r .answer) (jobState (r .session) n left map scratch)
-    paint-executed lent map scratch = record {
+        → (m : Maps) (scratch : List ℤ) → Executed (Paint x y cols rows) (jobState s n sheet m scratch) (r .answer) (jobState (r .session) n left m scratch)
+    paint-executed lent m scratch = record {
       answer = answer;
       left =
           rw (← answer, session, lent, behind, and-false (eqb (r .answer) 0)) (same-state (joined-sheet (eqb (r .answer) 0) _ _ _ _ _) refl refl);
     }
 
     pub erase-executed : take n left ≡ onDone (r .answer) (filledBy s x y cols rows 0 (take n sheet)) (take n sheet)
-        → (map scratch : List ℤ) → Executed (Erase x y cols rows) (jobState s n sheet map scratch) (r .answer) (jobState (r .session) n left map scratch)
-    erase-executed lent map scratch = record {
+        → (m : Maps) (scratch : List ℤ) → Executed (Erase x y cols rows) (jobState s n sheet m scratch) (r .answer) (jobState (r .session) n left m scratch)
+    erase-executed lent m scratch = record {
       answer = answer;
       left =
           rw (← answer, session, lent, behind, and-false (eqb (r .answer) 0)) (same-state (joined-sheet (eqb (r .answer) 0) _ _ _ _ _) refl refl);
     }
 
-module _ (s : Session) (n : ℕ) (map : List ℤ) (r : Reply) where
-  pub place-executed : (x y q : ℕ) → r .answer ≡ firstOf (placeTable s (take (2 * n) map) x y q)
-      → r .session ≡ onDone (r .answer) (placeSession s (take (2 * n) map) x y q) s
-      → (sheet : List ℕ) (scratch : List ℤ) → Executed (Place x y q) (jobState s n sheet map scratch) (r .answer) (jobState (r .session) n sheet map scratch)
+module _ (s : Session) (n : ℕ) (m : Maps) (r : Reply) where
+  pub place-executed : (x y q : ℕ) → r .answer ≡ firstOf (placeTable s (mapsUpTo n m) x y q)
+      → r .session ≡ onDone (r .answer) (placeSession s (mapsUpTo n m) x y q) s
+      → (sheet : List ℕ) (scratch : List ℤ) → Executed (Place x y q) (jobState s n sheet m scratch) (r .answer) (jobState (r .session) n sheet m scratch)
   place-executed x y q answer session sheet scratch = record {
     answer = answer;
     left = rw (← answer, session, and-false (eqb (r .answer) 0)) (same-state (joined-session (eqb (r .answer) 0) _ _ _ _) refl refl);
   }
 
-  pub run-executed : (d k : ℕ) → r .answer ≡ firstOf (runTable s (take (2 * n) map) d k)
-      → r .session ≡ onDone (r .answer) (runSession s (take (2 * n) map) d k) s
-      → (sheet : List ℕ) (scratch : List ℤ) → Executed (Run d k) (jobState s n sheet map scratch) (r .answer) (jobState (r .session) n sheet map scratch)
+  pub run-executed : (d k : ℕ) → r .answer ≡ firstOf (runTable s (mapsUpTo n m) d k)
+      → r .session ≡ onDone (r .answer) (runSession s (mapsUpTo n m) d k) s
+      → (sheet : List ℕ) (scratch : List ℤ) → Executed (Run d k) (jobState s n sheet m scratch) (r .answer) (jobState (r .session) n sheet m scratch)
   run-executed d k answer session sheet scratch = record {
     answer = answer;
     left = rw (← answer, session, and-false (eqb (r .answer) 0)) (same-state (joined-session (eqb (r .answer) 0) _ _ _ _) refl refl);
   }
 
   pub lift-executed : r .answer ≡ 0 → r .session ≡ liftSession s
-      → (sheet : List ℕ) (scratch : List ℤ) → Executed Lift (jobState s n sheet map scratch) (r .answer) (jobState (r .session) n sheet map scratch)
+      → (sheet : List ℕ) (scratch : List ℤ) → Executed Lift (jobState s n sheet m scratch) (r .answer) (jobState (r .session) n sheet m scratch)
   unfolding firstOf
   lift-executed answer session sheet scratch = record { answer = answer; left = rw session }
 
-module _ (s : Session) (n : ℕ) (sheet : List ℕ) (map scratch : List ℤ) (r : Reply) where
-  pub build-executed : (e : ℕ) (left used : List ℤ) → r .answer ≡ firstOf (buildTable s (take n sheet) (take (2 * n) map) scratch e)
+module _ (s : Session) (n : ℕ) (sheet : List ℕ) (m : Maps) (scratch : List ℤ) (r : Reply) where
+  pub build-executed : (e : ℕ) (pairs : List ℤ) (values : List ℕ) (used : List ℤ) → let l = mapsUpTo n m in
+      r .answer ≡ firstOf (buildTable s (take n sheet) l scratch e)
       → r .session ≡ onDone (r .answer) (builtBy e s) s
-      → take (2 * n) left ≡ onDone (r .answer) (engineMap s (take n sheet) e) (take (2 * n) map)
-      → drop (2 * n) left ≡ drop (2 * n) map
+      → take (2 * n) pairs ≡ onDone (r .answer) (pairsBuilt s (take n sheet) e (l .pairs)) (l .pairs)
+      → drop (2 * n) pairs ≡ drop (2 * n) (m .pairs)
+      → take n values ≡ onDone (r .answer) (valuesBuilt s (take n sheet) e (l .values)) (l .values)
+      → drop n values ≡ drop n (m .values)
       → used ≡ cond (eqb (r .answer) 0 && eqb e 1) (scratchBy s scratch) scratch
-      → Executed (Build e) (jobState s n sheet map scratch) (r .answer) (jobState (r .session) n sheet left used)
-  build-executed e left used answer session lent behind scratch-used = record {
+      → Executed (Build e) (jobState s n sheet m scratch) (r .answer) (jobState (r .session) n sheet (maps pairs values) used)
+  build-executed e pairs values used answer session lent behind lent-values behind-values scratch-used = record {
     answer = answer;
-    left = rw (← answer, session, lent, behind, scratch-used) (same-state (joined-map (eqb (r .answer) 0) _ _ _ _ _) refl refl);
+    left =
+        rw (← answer, session, lent, behind, lent-values, behind-values, scratch-used, joined-maps (eqb (r .answer) 0) _ _ _ _)
+        (same-state (joined-map (eqb (r .answer) 0) _ _ _ _ _) refl refl);
   }
 
-  module _ (q : ℕ) (cut : List ℕ) (left used : List ℤ) (answer : r .answer ≡ firstOf (resizeTable s (take n sheet) (take (2 * n) map) scratch q))
+  module _ (q : ℕ) (cut : List ℕ) (left used : List ℤ) (answer : r .answer ≡ firstOf (resizeTable s (take n sheet) (take (2 * n) (m .pairs)) scratch q))
       (session : r .session ≡ onDone (r .answer) (stale s) s)
       (behind : drop n cut ≡ drop n sheet)
-      (lent-map : take (2 * n) left ≡ onDone (r .answer) (unmapped (take (2 * n) map)) (take (2 * n) map))
-      (behind-map : drop (2 * n) left ≡ drop (2 * n) map)
+      (lent-map : take (2 * n) left ≡ onDone (r .answer) (unmapped (take (2 * n) (m .pairs))) (take (2 * n) (m .pairs)))
+      (behind-map : drop (2 * n) left ≡ drop (2 * n) (m .pairs))
       (used-scratch : used ≡ onDone (r .answer) (scratchBy s scratch) scratch) where
     pub expand-executed : take n cut ≡ onDone (r .answer) (expanded (s .width) (s .height) q (take n sheet)) (take n sheet)
-        → Executed (Expand q) (jobState s n sheet map scratch) (r .answer) (jobState (r .session) n cut left used)
+        → Executed (Expand q) (jobState s n sheet m scratch) (r .answer) (jobState (r .session) n cut (maps left (m .values)) used)
     expand-executed lent = record {
       answer = answer;
       left =
-          rw (← answer, session, lent, behind, lent-map, behind-map, used-scratch, and-true (eqb (r .answer) 0))
+          rw (← answer, session, lent, behind, lent-map, behind-map, used-scratch, and-true (eqb (r .answer) 0), joined-pairs (eqb (r .answer) 0) _ _ _)
           (same-state (joined (eqb (r .answer) 0) _ _ _ _ _ _) refl refl);
     }
 
     pub shrink-executed : take n cut ≡ onDone (r .answer) (shrunk (s .width) (s .height) q (take n sheet)) (take n sheet)
-        → Executed (Shrink q) (jobState s n sheet map scratch) (r .answer) (jobState (r .session) n cut left used)
+        → Executed (Shrink q) (jobState s n sheet m scratch) (r .answer) (jobState (r .session) n cut (maps left (m .values)) used)
     shrink-executed lent = record {
       answer = answer;
       left =
-          rw (← answer, session, lent, behind, lent-map, behind-map, used-scratch, and-true (eqb (r .answer) 0))
+          rw (← answer, session, lent, behind, lent-map, behind-map, used-scratch, and-true (eqb (r .answer) 0), joined-pairs (eqb (r .answer) 0) _ _ _)
           (same-state (joined (eqb (r .answer) 0) _ _ _ _ _ _) refl refl);
     }

@@ -1,4 +1,4 @@
--- Running a job: document 01, "Job file" and "Lists of calls". Which list of calls the records mean, what is printed of it and what it leaves in the lent
+-- Running a job: document 01, "Job file" and "Lists of calls", and document 02, C-12. Which list of calls the records mean, what is printed of it and what it leaves in the lent
 -- buffers. Answers and effects of a call are those of `session`.
 -- Assumes nothing.
 use mathlib.Core.List.{List, [], _∷_, _++_}
@@ -9,6 +9,7 @@ use lib.Dec.{eqb, ltb}
 use lib.IntN.{ℤ}
 use lib.ListN.{length, take, drop}
 use Rattle.raster.specs.Refusal.{firstOf}
+use Rattle.cutter.specs.Kinds.{Maps, maps}
 use Rattle.session.specs.declared.Session.{Session}
 use Rattle.session.specs.State.{fresh}
 use Rattle.session.specs.Calls.{onDone}
@@ -19,10 +20,22 @@ use Rattle.records.specs.declared.Record.the-variants.{Open, Paint, Erase, Buil
 use Rattle.records.specs.Format.{isJob, recordsOf}
 use Rattle.records.specs.Text.{answerLine, textFrom}
 
+-- ---- the buffers of a job: of a sheet of n pixels n bytes are lent, 2 × n numbers of the pairs and n of the values
+
+-- that part of both maps, what is behind it, and both together
+abbrev pub mapsUpTo : (n : ℕ) → Maps → Maps
+mapsUpTo n m = maps (take (2 * n) (m .pairs)) (take n (m .values))
+
+abbrev pub mapsBehind : (n : ℕ) → Maps → Maps
+mapsBehind n m = maps (drop (2 * n) (m .pairs)) (drop n (m .values))
+
+abbrev pub mapsWhole : Maps → Maps → Maps
+mapsWhole m rest = maps (m .pairs ++ rest .pairs) (m .values ++ rest .values)
+
 -- the sheet and map buffers behind the parts that are lent
 pub record Behind : Type 0 where
   pub sheet : List ℕ
-  pub map : List ℤ
+  pub maps : Maps
 
 -- what a job is run on: the world of its list of calls, the rest of the buffers, and the scratch buffer, which is lent whole
 pub record JobState : Type 0 where
@@ -30,21 +43,21 @@ pub record JobState : Type 0 where
   pub behind : Behind
   pub scratch : List ℤ
 
--- a session with buffers of which the first n bytes and 2 × n numbers are lent
-abbrev pub jobState : Session → (n : ℕ) → List ℕ → (map scratch : List ℤ) → JobState
-jobState s n sheet map scratch =
-    record { world = world s (take n sheet) (take (2 * n) map); behind = record { sheet = drop n sheet; map = drop (2 * n) map }; scratch = scratch }
+-- a session with buffers of which the parts of a sheet of n pixels are lent
+abbrev pub jobState : Session → (n : ℕ) → List ℕ → Maps → (scratch : List ℤ) → JobState
+jobState s n sheet m scratch =
+    record { world = world s (take n sheet) (mapsUpTo n m); behind = record { sheet = drop n sheet; maps = mapsBehind n m }; scratch = scratch }
 
 -- the whole buffers
 abbrev pub sheetBuffer : JobState → List ℕ
 sheetBuffer b = b .world .sheet ++ b .behind .sheet
 
-abbrev pub mapBuffer : JobState → List ℤ
-mapBuffer b = b .world .map ++ b .behind .map
+abbrev pub mapBuffers : JobState → Maps
+mapBuffers b = mapsWhole (b .world .maps) (b .behind .maps)
 
--- the call that a record means: an opening comes with the first w × h bytes and 2 × w × h numbers, or with the whole of a shorter buffer
+-- the call that a record means: an opening comes with the parts of a sheet of w × h pixels, or with the whole of a shorter buffer
 abbrev pub callOf : Record → JobState → calls.Call
-callOf (Open w h) b = calls.opening w h (some (record { sheet = take (h * w) (sheetBuffer b); map = take (2 * (h * w)) (mapBuffer b) }))
+callOf (Open w h) b = calls.opening w h (some (record { sheet = take (h * w) (sheetBuffer b); maps = mapsUpTo (h * w) (mapBuffers b) }))
 callOf (Paint x y c r) b = calls.paint x y c r
 callOf (Erase x y c r) b = calls.erase x y c r
 callOf (Build e) b = calls.build e (b .scratch)
@@ -56,7 +69,7 @@ callOf (Shrink q) b = calls.shrink q (b .scratch)
 
 -- behind the lent parts, after a record with its answer: an opening that is done takes other parts
 abbrev pub behindAfter : Record → (answer : ℕ) → JobState → Behind
-behindAfter (Open w h) a b = onDone a (record { sheet = drop (h * w) (sheetBuffer b); map = drop (2 * (h * w)) (mapBuffer b) }) (b .behind)
+behindAfter (Open w h) a b = onDone a (record { sheet = drop (h * w) (sheetBuffer b); maps = mapsBehind (h * w) (mapBuffers b) }) (b .behind)
 behindAfter (Paint x y c r) a b = b .behind
 behindAfter (Erase x y c r) a b = b .behind
 behindAfter (Build e) a b = b .behind
@@ -99,8 +112,8 @@ answersOf (c ∷ rest) w = answer c w ∷ answersOf rest (worldAfter c w)
 -- ---- a job, from a fresh session
 
 -- nothing of the buffers is lent yet
-abbrev pub startState : List ℕ → (map scratch : List ℤ) → JobState
-startState sheet map scratch = jobState fresh 0 sheet map scratch
+abbrev pub startState : List ℕ → Maps → (scratch : List ℤ) → JobState
+startState sheet m scratch = jobState fresh 0 sheet m scratch
 
 -- the lines of its records, numbered from 1
 unfoldable pub reportOf : List Record → JobState → List ℕ

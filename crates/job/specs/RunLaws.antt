@@ -13,6 +13,7 @@ use borrow.Author.Tests.{lt-ltb, le-ltb, ltb-true, leb-true}
 use Rattle.raster.specs.Refusal.{firstOf}
 use Rattle.raster.specs.RefusalLaws.{every, first-every}
 use Rattle.raster.specs.Tests.{and-left, and-right}
+use Rattle.cutter.specs.Kinds.{Maps}
 use Rattle.session.specs.declared.Session.{Session}
 use Rattle.session.specs.Refusals.{openTable, fillTable, buildTable, buildTableBy, placeRows, placeTable, runRows, runTable, resizeTable, resizeTableBy, readTable}
 use Rattle.session.specs.Lists as calls
@@ -23,6 +24,7 @@ use Rattle.records.specs.Format.{lengthHere, recordHere, readHere, recordsIn, i
 use Rattle.records.specs.FormatLaws.{size-fits, splits-turn, records-turn, splits-not, records-end, broken-is}
 use Rattle.records.specs.Text.{answerLine, textFrom, Put}
 use Rattle.records.specs.TextLaws.{nine-bytes}
+use Rattle.job.specs.ExecuteLaws.{maps-again}
 use Rattle.job.specs.Run.{JobState, jobState, callOf, callsOf, stateAfter, answersOf, reportOf, stepped, roomFor, ranAnswer}
 use Rattle.job.specs.Execute.{Executed, Buffers, JobRunning}
 
@@ -126,10 +128,10 @@ module _ {job : List ℕ} {start : JobState} {empty : List ℕ} {i at end : ℕ}
     running-left = rw none-left at (r .state)
 
 -- the buffers that a session works on
-pub buffers : {t : JobState} (s : Session) (n : ℕ) (sheet : List ℕ) (map scratch : List ℤ) → jobState s n sheet map scratch ≡ t → Buffers t sheet map scratch
-buffers s n sheet map scratch e = record {
+pub buffers : {t : JobState} (s : Session) (n : ℕ) (sheet : List ℕ) (m : Maps) (scratch : List ℤ) → jobState s n sheet m scratch ≡ t → Buffers t sheet m scratch
+buffers s n sheet m scratch e = record {
   sheet-left = rw (← e) (sym (take-append-drop n sheet));
-  map-left = rw (← e) (sym (take-append-drop (2 * n) map));
+  maps-left = rw (← e) (sym (maps-again n m));
   scratch-left = rw (← e);
 }
 

@@ -26,9 +26,17 @@ fn main() {
     let n = read_job(&mut file);
     let mut sheet = [0u8; 8192];
     let mut map = [0i16; 16384];
+    let mut values = [0u16; 8192];
     let mut scratch = [0i16; 8192];
     let mut out = [0u8; 147456];
-    let ran = job::run(&file[..n], &mut sheet, &mut map, &mut scratch, &mut out);
+    let ran = job::run(
+        &file[..n],
+        &mut sheet,
+        &mut map,
+        &mut values,
+        &mut scratch,
+        &mut out,
+    );
     let written = ran.written;
     if !io::write_all(STDOUT_FILENO, &out[..written]) {
         io::write_all(STDERR_FILENO, b"mill: the text was not written in full\n");

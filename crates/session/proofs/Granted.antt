@@ -15,11 +15,12 @@ use Rattle.raster.specs.Refusal.{firstOf}
 use Rattle.raster.specs.RefusalLaws.{none-holds, last-fails, last-holds}
 use Rattle.raster.specs.Tests.{and-left, and-right, or-left, or-right}
 use Rattle.exact.specs.Nearest.{scratchNeed}
+use Rattle.cutter.specs.Kinds.{Maps, hasPixels}
 use Rattle.cutter.specs.Gates.{knownEngine, OnSheet, mayStand, leavesSheet, blocked}
 use Rattle.cutter.proofs.Walk.{on-sheet}
 use Rattle.session.specs.declared.Session.{Session}
 use Rattle.session.specs.State.{side, cutterSound, mapSound, sheetSound, sound, active, cutterOf, ownCutter}
-use Rattle.session.specs.Refusals.{notSheet, notMap, shortScratch, openTable, fillTable, buildTable, buildTableBy, placeRows, placeTable, runRows, runTable, resizeTable, resizeTableBy, readTable}
+use Rattle.session.specs.Refusals.{notSheet, notMap, notMapBy, shortScratch, openTable, fillTable, buildTable, buildTableBy, placeRows, placeTable, runRows, runTable, resizeTable, resizeTableBy, readTable}
 
 both : (a b : Bool) → a && b ≡ true → (a ≡ true) × (b ≡ true)
 both a b e = (and-left a b e, and-right a b e)
@@ -87,78 +88,78 @@ fill-granted s sheet x y cols rows table done =
 
 -- ---- build
 
-pub record Building (s : Session) (sheet : List ℕ) (map scratch : List ℤ) (engine : ℕ) : Type 0 where
+pub record Building (s : Session) (sheet : List ℕ) (m : Maps) (scratch : List ℤ) (engine : ℕ) : Type 0 where
   pub open-sheet : active s ≡ true
   pub held : length sheet ≡ s .height * s .width
-  pub mapped : length map ≡ 2 * (s .height * s .width)
+  pub mapped : hasPixels engine (s .height * s .width) m ≡ true
   pub spare : eqb engine 1 && shortScratch s scratch ≡ false
   pub known : knownEngine engine ≡ true
 
-pub build-granted : (s : Session) (sheet : List ℕ) (map scratch : List ℤ) (e : ℕ) {answer : ℕ}
-    → answer ≡ firstOf (buildTable s sheet map scratch e) → answer ≡ 0 → Building s sheet map scratch e
+pub build-granted : (s : Session) (sheet : List ℕ) (m : Maps) (scratch : List ℤ) (e : ℕ) {answer : ℕ}
+    → answer ≡ firstOf (buildTable s sheet m scratch e) → answer ≡ 0 → Building s sheet m scratch e
 unfolding buildTable buildTableBy
-build-granted s sheet map scratch e table done =
+build-granted s sheet m scratch e table done =
     let f = none-holds _ refl (sym table ∙ done) in
     let others = or-right (notSheet s sheet) _ (f 1) in
     record {
       open-sheet = not-false _ (f 0);
       held = eqb-true _ _ (not-false _ (or-left (notSheet s sheet) _ (f 1)));
-      mapped = eqb-true _ _ (not-false _ (or-left (notMap s map) _ others));
-      spare = or-right (notMap s map) _ others;
+      mapped = not-false _ (or-left (notMapBy e s m) _ others);
+      spare = or-right (notMapBy e s m) _ others;
       known = not-false _ (f 2);
     }
 
 -- ---- place: as far as the gate
 
-pub record Placing (s : Session) (map : List ℤ) (x y q : ℕ) : Type 0 where
+pub record Placing (s : Session) (m : Maps) (x y q : ℕ) : Type 0 where
   pub open-sheet : active s ≡ true
-  pub held : length map ≡ 2 * (s .height * s .width)
+  pub held : hasPixels (s .engine) (s .height * s .width) m ≡ true
   pub small : q ≤ maxQ
   pub across : x < s .width
   pub down : y < s .height
   pub current : s .current ≡ true
 
-pub place-granted : (s : Session) (map : List ℤ) (x y q : ℕ) {answer : ℕ}
-    → answer ≡ firstOf (placeRows s map x y q) → answer ≡ 0 → Placing s map x y q
+pub place-granted : (s : Session) (m : Maps) (x y q : ℕ) {answer : ℕ}
+    → answer ≡ firstOf (placeRows s m x y q) → answer ≡ 0 → Placing s m x y q
 unfolding placeRows
-place-granted s map x y q table done =
+place-granted s m x y q table done =
     let f = none-holds _ refl (sym table ∙ done) in
     record {
       open-sheet = not-false _ (f 0);
-      held = eqb-true _ _ (not-false _ (f 1));
+      held = not-false _ (f 1);
       small = ltb-false _ _ (f 2);
       across = leb-false _ _ (or-left (leb (s .width) x) _ (f 3));
       down = leb-false _ _ (or-right (leb (s .width) x) _ (f 3));
       current = not-false _ (f 4);
     }
 
-module _ (s : Session) (map : List ℤ) (x y q : ℕ) where
+module _ (s : Session) (m : Maps) (x y q : ℕ) where
   -- the whole table answers 0, or 34
-  pub place-done : firstOf (placeTable s map x y q) ≡ 0 → Placing s map x y q × (mayStand (cutterOf s x y q) map ≡ true)
+  pub place-done : firstOf (placeTable s m x y q) ≡ 0 → Placing s m x y q × (mayStand (cutterOf s x y q) m ≡ true)
   unfolding placeTable placeRows
   place-done z =
-      let r = last-fails (not (mayStand (cutterOf s x y q) map)) 34 (omega arith) (placeRows s map x y q) refl z in
-      (place-granted s map x y q refl (r .0), not-false _ (r .1))
+      let r = last-fails (not (mayStand (cutterOf s x y q) m)) 34 (omega arith) (placeRows s m x y q) refl z in
+      (place-granted s m x y q refl (r .0), not-false _ (r .1))
 
-  pub place-stopped : firstOf (placeTable s map x y q) ≡ 34 → Placing s map x y q × (mayStand (cutterOf s x y q) map ≡ false)
+  pub place-stopped : firstOf (placeTable s m x y q) ≡ 34 → Placing s m x y q × (mayStand (cutterOf s x y q) m ≡ false)
   unfolding placeTable placeRows
   place-stopped z =
-      let r = last-holds (not (mayStand (cutterOf s x y q) map)) 34 (omega arith) (placeRows s map x y q) refl z in
-      (place-granted s map x y q refl (r .0), not-true _ (r .1))
+      let r = last-holds (not (mayStand (cutterOf s x y q) m)) 34 (omega arith) (placeRows s m x y q) refl z in
+      (place-granted s m x y q refl (r .0), not-true _ (r .1))
 
 -- ---- run: as far as the gates
 
-pub record RunGranted (s : Session) (map : List ℤ) (direction n : ℕ) : Type 0 where
+pub record RunGranted (s : Session) (m : Maps) (direction n : ℕ) : Type 0 where
   pub open-sheet : active s ≡ true
   pub lowered : s .lowered ≡ true
   pub cutter : Lowered s
   pub steps : 1 ≤ n
   pub inside : leavesSheet (ownCutter s) direction n ≡ false
-  pub on : OnSheet (ownCutter s) map direction n
+  pub on : OnSheet (ownCutter s) m direction n
 
-pub run-granted : (s : Session) (map : List ℤ) (d n : ℕ) {answer : ℕ} → answer ≡ firstOf (runRows s map d n) → answer ≡ 0 → RunGranted s map d n
+pub run-granted : (s : Session) (m : Maps) (d n : ℕ) {answer : ℕ} → answer ≡ firstOf (runRows s m d n) → answer ≡ 0 → RunGranted s m d n
 unfolding runRows
-run-granted s map d n table done =
+run-granted s m d n table done =
     let f = none-holds _ refl (sym table ∙ done) in
     let counted : leb 1 n && leb n maxCount ≡ true = not-false _ (or-right (ltb 7 d) _ (f 2)) in
     let cutter = lowered-says s (and-right (s .opened) _ (not-false _ (f 0))) (not-false _ (f 3)) in
@@ -169,22 +170,22 @@ run-granted s map d n table done =
       cutter = cutter;
       steps = leb-true 1 n (and-left (leb 1 n) _ counted);
       inside = f 4;
-      on = on-sheet (ownCutter s) d known (cutter .across) (cutter .down) n (eqb-true _ _ (not-false _ (f 1))) (f 4);
+      on = on-sheet (ownCutter s) d known (cutter .across) (cutter .down) n (not-false _ (f 1)) (f 4);
     }
 
-module _ (s : Session) (map : List ℤ) (d n : ℕ) where
+module _ (s : Session) (m : Maps) (d n : ℕ) where
   -- the whole table answers 0, or 34
-  pub run-done : firstOf (runTable s map d n) ≡ 0 → RunGranted s map d n × (blocked (ownCutter s) map d n ≡ false)
+  pub run-done : firstOf (runTable s m d n) ≡ 0 → RunGranted s m d n × (blocked (ownCutter s) m d n ≡ false)
   unfolding runTable runRows
   run-done z =
-      let r = last-fails (blocked (ownCutter s) map d n) 34 (omega arith) (runRows s map d n) refl z in
-      (run-granted s map d n refl (r .0), r .1)
+      let r = last-fails (blocked (ownCutter s) m d n) 34 (omega arith) (runRows s m d n) refl z in
+      (run-granted s m d n refl (r .0), r .1)
 
-  pub run-stopped : firstOf (runTable s map d n) ≡ 34 → RunGranted s map d n × (blocked (ownCutter s) map d n ≡ true)
+  pub run-stopped : firstOf (runTable s m d n) ≡ 34 → RunGranted s m d n × (blocked (ownCutter s) m d n ≡ true)
   unfolding runTable runRows
   run-stopped z =
-      let r = last-holds (blocked (ownCutter s) map d n) 34 (omega arith) (runRows s map d n) refl z in
-      (run-granted s map d n refl (r .0), r .1)
+      let r = last-holds (blocked (ownCutter s) m d n) 34 (omega arith) (runRows s m d n) refl z in
+      (run-granted s m d n refl (r .0), r .1)
 
 -- ---- expand and shrink
 

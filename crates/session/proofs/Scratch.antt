@@ -1,5 +1,5 @@
 -- Scratch: document 01 asks for W × H numbers of it, document 02 (C-22) for 4 × W. Where there are enough by both, build, expand and shrink go by
--- document 01's tables, and what they leave in session, sheet and map does not depend on scratch.
+-- document 01's tables, and what they leave in session, sheet and maps does not depend on scratch.
 -- Assumes nothing.
 use mathlib.Core.Path.{_≡_, sym, _∙_}
 use mathlib.Core.Bool.{Bool, true, false}
@@ -22,7 +22,7 @@ use Rattle.session.proofs.Granted.{active-limits}
 abbrev shortByPixels : Session → List ℤ → Bool
 shortByPixels s scratch = ltb (length scratch) (s .height * s .width)
 
--- with that scratch the call answers by that table; and whatever scratch it is lent, on that answer it leaves the same session, sheet and map
+-- with that scratch the call answers by that table; and whatever scratch it is lent, on that answer it leaves the same session, sheet and maps
 pub record GoesBy (t : Table) (c : List ℤ → Call) (scratch : List ℤ) (w : World) : Type 0 where
   pub answers : answer (c scratch) w ≡ firstOf t
   pub leaves : (other : List ℤ) → worldAfter (c scratch) w ≡ left (c other) (firstOf t) w
@@ -33,15 +33,15 @@ module _ (w : World) (scratch : List ℤ)
   same : shortScratch (w .session) scratch ≡ shortByPixels (w .session) scratch
   same = le-ltb _ _ enough ∙ sym (le-ltb _ _ by-pixels)
 
-  pub build-by-either : (e : ℕ) → GoesBy (buildTableBy (shortByPixels (w .session) scratch) (w .session) (w .sheet) (w .map) e) (build e) scratch w
+  pub build-by-either : (e : ℕ) → GoesBy (buildTableBy (shortByPixels (w .session) scratch) (w .session) (w .sheet) (w .maps) e) (build e) scratch w
   unfolding buildTable
   build-by-either e = record { answers = rw same; leaves = λ other. rw same }
 
-  pub expand-by-either : (q : ℕ) → GoesBy (resizeTableBy (shortByPixels (w .session) scratch) (w .session) (w .sheet) (w .map) q) (expand q) scratch w
+  pub expand-by-either : (q : ℕ) → GoesBy (resizeTableBy (shortByPixels (w .session) scratch) (w .session) (w .sheet) (w .maps .pairs) q) (expand q) scratch w
   unfolding resizeTable
   expand-by-either q = record { answers = rw same; leaves = λ other. rw same }
 
-  pub shrink-by-either : (q : ℕ) → GoesBy (resizeTableBy (shortByPixels (w .session) scratch) (w .session) (w .sheet) (w .map) q) (shrink q) scratch w
+  pub shrink-by-either : (q : ℕ) → GoesBy (resizeTableBy (shortByPixels (w .session) scratch) (w .session) (w .sheet) (w .maps .pairs) q) (shrink q) scratch w
   unfolding resizeTable
   shrink-by-either q = record { answers = rw same; leaves = λ other. rw same }
 

@@ -1,4 +1,4 @@
--- What each call leaves: document 01, "Calls", and document 02, C-11. A call that answers 0 does what is said here; any other leaves the session and every slice as they came.
+-- What each call leaves: document 01, "Calls", and document 02, C-11 and C-12. A call that answers 0 does what is said here; any other leaves the session and every slice as they came.
 -- Assumes nothing.
 use mathlib.Core.Bool.{Bool, cond, _&&_}
 use mathlib.Core.List.{List, []}
@@ -8,6 +8,7 @@ use lib.IntN.{ℤ}
 use lib.ListN.{take, drop}
 use Rattle.raster.specs.Sheet.{filled}
 use Rattle.exact.specs.Nearest.{scratchLeft}
+use Rattle.cutter.specs.Kinds.{Maps}
 use Rattle.cutter.specs.Closest.{unmet, closestAt, closestAlong}
 use Rattle.cutter.specs.Directions.{columnAfter, rowAfter}
 use Rattle.session.specs.declared.Session.{Session}
@@ -27,12 +28,12 @@ abbrev pub scratchBy : Session → List ℤ → List ℤ
 scratchBy s scratch = scratchLeft (s .width) scratch
 
 -- place: the cutter is down, and has met that pixel alone
-abbrev pub placeSession : Session → List ℤ → (x y q : ℕ) → Session
-placeSession s map x y q = downAt x y q (closestAt (cutterOf s x y q) map unmet) s
+abbrev pub placeSession : Session → Maps → (x y q : ℕ) → Session
+placeSession s m x y q = downAt x y q (closestAt (cutterOf s x y q) m unmet) s
 
 -- run: the cutter is down where its steps end, and has met the pixels on the way too
-abbrev pub runSession : Session → List ℤ → (direction count : ℕ) → Session
-runSession s map d n = downAt (columnAfter d n (s .x)) (rowAfter d n (s .y)) (s .q) (closestAlong (ownCutter s) map d n (s .closest)) s
+abbrev pub runSession : Session → Maps → (direction count : ℕ) → Session
+runSession s m d n = downAt (columnAfter d n (s .x)) (rowAfter d n (s .y)) (s .q) (closestAlong (ownCutter s) m d n (s .closest)) s
 
 -- lift: done also if the cutter was up; the closest approach stays. A session that is not sound becomes a fresh one
 abbrev pub liftSession : Session → Session

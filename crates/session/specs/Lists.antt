@@ -11,18 +11,19 @@ use Rattle.raster.specs.Map.{unmapped}
 use Rattle.raster.specs.Refusal.{Table, firstOf}
 use Rattle.raster.specs.Sheet.{bare}
 use Rattle.morphology.specs.Resize.{expanded, shrunk}
+use Rattle.cutter.specs.Kinds.{Maps, maps}
 use Rattle.session.specs.declared.Session.{Session}
 use Rattle.session.specs.State.{openedAs, stale, builtBy}
-use Rattle.session.specs.Maps.{engineMap}
+use Rattle.session.specs.Maps.{mapsBuilt}
 use Rattle.session.specs.Refusals.{openTable, fillTable, buildTable, placeTable, runTable, resizeTable, skeletonTable, rebuildTable}
 use Rattle.session.specs.Calls.{onDone, filledBy, scratchBy, placeSession, runSession, liftSession}
 
 -- ---- the calls
 
--- the sheet and map that an opening may come with
+-- the sheet and maps that an opening may come with
 pub record Lent : Type 0 where
   pub sheet : List ℕ
-  pub map : List ℤ
+  pub maps : Maps
 
 -- a call: its numbers, and the slices that only it is lent
 pub data Call : Type 0 where
@@ -44,29 +45,29 @@ pub data Call : Type 0 where
 pub record World : Type 0 where
   pub session : Session
   pub sheet : List ℕ
-  pub map : List ℤ
+  pub maps : Maps
 
-abbrev pub world : Session → List ℕ → List ℤ → World
-world s sheet map = record { session = s; sheet = sheet; map = map }
+abbrev pub world : Session → List ℕ → Maps → World
+world s sheet m = record { session = s; sheet = sheet; maps = m }
 
 -- ---- what each answers
 
--- the sheet and map that an opening works on: those it comes with, or the list's
+-- the sheet and maps that an opening works on: those it comes with, or the list's
 abbrev pub lentTo : Option Lent → World → Lent
-lentTo none w = record { sheet = w .sheet; map = w .map }
+lentTo none w = record { sheet = w .sheet; maps = w .maps }
 lentTo (some l) w = l
 
 abbrev pub tableOf : Call → World → Table
 tableOf (opening a b o) w = openTable (lentTo o w .sheet) a b
 tableOf (paint x y c r) w = fillTable (w .session) (w .sheet) x y c r
 tableOf (erase x y c r) w = fillTable (w .session) (w .sheet) x y c r
-tableOf (build e scratch) w = buildTable (w .session) (w .sheet) (w .map) scratch e
-tableOf (place x y q) w = placeTable (w .session) (w .map) x y q
-tableOf (run d n) w = runTable (w .session) (w .map) d n
-tableOf (expand q scratch) w = resizeTable (w .session) (w .sheet) (w .map) scratch q
-tableOf (shrink q scratch) w = resizeTable (w .session) (w .sheet) (w .map) scratch q
-tableOf (skeleton out) w = skeletonTable (w .session) (w .map) out
-tableOf (rebuild marks out) w = rebuildTable (w .session) (w .map) marks out
+tableOf (build e scratch) w = buildTable (w .session) (w .sheet) (w .maps) scratch e
+tableOf (place x y q) w = placeTable (w .session) (w .maps) x y q
+tableOf (run d n) w = runTable (w .session) (w .maps) d n
+tableOf (expand q scratch) w = resizeTable (w .session) (w .sheet) (w .maps .pairs) scratch q
+tableOf (shrink q scratch) w = resizeTable (w .session) (w .sheet) (w .maps .pairs) scratch q
+tableOf (skeleton out) w = skeletonTable (w .session) (w .maps .pairs) out
+tableOf (rebuild marks out) w = rebuildTable (w .session) (w .maps .pairs) marks out
 tableOf lift w = []
 tableOf aside w = []
 
@@ -75,25 +76,25 @@ answer c w = firstOf (tableOf c w)
 
 -- ---- what each leaves
 
--- a call that writes the sheet, refused or done; expand and shrink leave the map unlabelled too
+-- a call that writes the sheet, refused or done; expand and shrink leave the pairs unlabelled too
 abbrev pub withSheet : (answer : ℕ) → List ℕ → World → World
-withSheet a sheet w = onDone a (world (stale (w .session)) sheet (w .map)) w
+withSheet a sheet w = onDone a (world (stale (w .session)) sheet (w .maps)) w
 
 abbrev pub resized : (answer : ℕ) → List ℕ → World → World
-resized a sheet w = onDone a (world (stale (w .session)) sheet (unmapped (w .map))) w
+resized a sheet w = onDone a (world (stale (w .session)) sheet (maps (unmapped (w .maps .pairs)) (w .maps .values))) w
 
 -- a call that changes the session alone
 abbrev pub withSession : (answer : ℕ) → Session → World → World
-withSession a s w = onDone a (world s (w .sheet) (w .map)) w
+withSession a s w = onDone a (world s (w .sheet) (w .maps)) w
 
 -- what a call leaves when it gave the answer a
 abbrev pub left : Call → (a : ℕ) → World → World
-left (opening x y o) a w = onDone a (world (openedAs x y) (bare (lentTo o w .sheet)) (lentTo o w .map)) w
+left (opening x y o) a w = onDone a (world (openedAs x y) (bare (lentTo o w .sheet)) (lentTo o w .maps)) w
 left (paint x y c r) a w = withSheet a (filledBy (w .session) x y c r 1 (w .sheet)) w
 left (erase x y c r) a w = withSheet a (filledBy (w .session) x y c r 0 (w .sheet)) w
-left (build e scratch) a w = onDone a (world (builtBy e (w .session)) (w .sheet) (engineMap (w .session) (w .sheet) e)) w
-left (place x y q) a w = withSession a (placeSession (w .session) (w .map) x y q) w
-left (run d n) a w = withSession a (runSession (w .session) (w .map) d n) w
+left (build e scratch) a w = onDone a (world (builtBy e (w .session)) (w .sheet) (mapsBuilt (w .session) (w .sheet) e (w .maps))) w
+left (place x y q) a w = withSession a (placeSession (w .session) (w .maps) x y q) w
+left (run d n) a w = withSession a (runSession (w .session) (w .maps) d n) w
 left lift a w = withSession a (liftSession (w .session)) w
 left (expand q scratch) a w = resized a (expanded (w .session .width) (w .session .height) q (w .sheet)) w
 left (shrink q scratch) a w = resized a (shrunk (w .session .width) (w .session .height) q (w .sheet)) w

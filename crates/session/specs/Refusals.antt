@@ -1,4 +1,4 @@
--- The tables of refusals: document 01, its two tables of numbers and the order under them. Each call has one table, 30 first, then ascending. Its answer is
+-- The tables of refusals: document 01, its two tables of numbers and the order under them, and document 02, C-12. Each call has one table, 30 first, then ascending. Its answer is
 -- the first number whose condition holds, or 0 (`firstOf`).
 -- Assumes nothing.
 use mathlib.Core.Bool.{Bool, not, _&&_, _||_}
@@ -11,6 +11,7 @@ use Rattle.raster.specs.Limits.{maxQ, maxCount}
 use Rattle.raster.specs.Map.{hasCopper}
 use Rattle.raster.specs.Refusal.{Table}
 use Rattle.exact.specs.Nearest.{scratchNeed}
+use Rattle.cutter.specs.Kinds.{Maps, hasPixels}
 use Rattle.cutter.specs.Gates.{knownEngine, mayStand, leavesSheet, blocked}
 use Rattle.session.specs.declared.Session.{Session}
 use Rattle.session.specs.State.{side, active, cutterOf, ownCutter}
@@ -25,6 +26,10 @@ notSheet s sheet = not (eqb (length sheet) (s .height * s .width))
 
 abbrev pub notMap : Session → List ℤ → Bool
 notMap s map = not (isMap s map)
+
+-- a map of other than the session's pixels, of the kind that the engine writes
+abbrev pub notMapBy : (engine : ℕ) → Session → Maps → Bool
+notMapBy e s m = not (hasPixels e (s .height * s .width) m)
 
 abbrev pub shortScratch : Session → List ℤ → Bool
 shortScratch s scratch = ltb (length scratch) (scratchNeed (s .width))
@@ -68,38 +73,38 @@ abbrev pub rebuildTable : Session → List ℤ → (marks out : List ℕ) → Ta
 rebuildTable s map marks out = readTable s map (notSheet s marks || notSheet s out)
 
 -- build; only engine 1 asks for scratch
-unfoldable pub buildTableBy : (short : Bool) → Session → List ℕ → List ℤ → (engine : ℕ) → Table
-buildTableBy short s sheet map e =
+unfoldable pub buildTableBy : (short : Bool) → Session → List ℕ → Maps → (engine : ℕ) → Table
+buildTableBy short s sheet m e =
     (not (active s), 30)
-    ∷ (notSheet s sheet || (notMap s map || (eqb e 1 && short)), 12)
+    ∷ (notSheet s sheet || (notMapBy e s m || (eqb e 1 && short)), 12)
     ∷ (not (knownEngine e), 14)
     ∷ []
 
-unfoldable pub buildTable : Session → List ℕ → (map scratch : List ℤ) → (engine : ℕ) → Table
-buildTable s sheet map scratch e = buildTableBy (shortScratch s scratch) s sheet map e
+unfoldable pub buildTable : Session → List ℕ → Maps → (scratch : List ℤ) → (engine : ℕ) → Table
+buildTable s sheet m scratch e = buildTableBy (shortScratch s scratch) s sheet m e
 
 -- ---- place and run: the rows that look at numbers and lengths alone, then one that looks at pixels, which those before it let be read
 
-unfoldable pub placeRows : Session → List ℤ → (x y q : ℕ) → Table
-placeRows s map x y q =
+unfoldable pub placeRows : Session → Maps → (x y q : ℕ) → Table
+placeRows s m x y q =
     (not (active s), 30)
-    ∷ (notMap s map, 12)
+    ∷ (notMapBy (s .engine) s m, 12)
     ∷ (ltb maxQ q, 15)
     ∷ (leb (s .width) x || leb (s .height) y, 16)
     ∷ (not (s .current), 31)
     ∷ []
 
-unfoldable pub placeTable : Session → List ℤ → (x y q : ℕ) → Table
-placeTable s map x y q = placeRows s map x y q ++ ((not (mayStand (cutterOf s x y q) map), 34) ∷ [])
+unfoldable pub placeTable : Session → Maps → (x y q : ℕ) → Table
+placeTable s m x y q = placeRows s m x y q ++ ((not (mayStand (cutterOf s x y q) m), 34) ∷ [])
 
-unfoldable pub runRows : Session → List ℤ → (direction count : ℕ) → Table
-runRows s map d n =
+unfoldable pub runRows : Session → Maps → (direction count : ℕ) → Table
+runRows s m d n =
     (not (active s), 30)
-    ∷ (notMap s map, 12)
+    ∷ (notMapBy (s .engine) s m, 12)
     ∷ (ltb 7 d || not (leb 1 n && leb n maxCount), 17)
     ∷ (not (s .lowered), 32)
     ∷ (leavesSheet (ownCutter s) d n, 33)
     ∷ []
 
-unfoldable pub runTable : Session → List ℤ → (direction count : ℕ) → Table
-runTable s map d n = runRows s map d n ++ ((blocked (ownCutter s) map d n, 34) ∷ [])
+unfoldable pub runTable : Session → Maps → (direction count : ℕ) → Table
+runTable s m d n = runRows s m d n ++ ((blocked (ownCutter s) m d n, 34) ∷ [])

@@ -1,4 +1,4 @@
--- The session: document 01, "Sheet, map, session", and document 02, C-11. Which sessions are sound, and the few ways in which a session changes.
+-- The session: document 01, "Sheet, map, session", and document 02, C-11 and C-12. Which sessions are sound, and the few ways in which a session changes.
 -- Assumes nothing.
 use mathlib.Core.Bool.{Bool, true, false, not, cond, _&&_}
 use Prim.Native.Nat.{ℕ}

@@ -1,4 +1,4 @@
-// The session (document 01, and document 02, C-11): every call takes it by value and hands it back with an answer number, 0 if it was done. No call asks
+// The session (document 01, and document 02, C-11 and C-12): every call takes it by value and hands it back with an answer number, 0 if it was done. No call asks
 // anything of its caller: bad input gets its number, and a refusal changes nothing.
 ghost use mathlib.Core.Path.{_≡_};
 ghost use mathlib.Core.Bool.{cond, _&&_};
@@ -10,9 +10,10 @@ ghost use Rattle.raster.specs.Sheet.{bare};
 ghost use Rattle.morphology.specs.Resize.{expanded, shrunk};
 ghost use Rattle.rebuild.specs.Rebuild.{rebuilt};
 ghost use Rattle.skeleton.specs.Skeleton.{skeletonOf};
+ghost use Rattle.cutter.specs.Kinds.{maps};
 ghost use Rattle.cutter.specs.Directions.{columnAfter, rowAfter};
 ghost use Rattle.session.specs.State.{fresh, openedAs, stale, builtBy, downAt};
-ghost use Rattle.session.specs.Maps.{engineMap};
+ghost use Rattle.session.specs.Maps.{pairsBuilt, valuesBuilt};
 ghost use Rattle.session.specs.Refusals.{
   openTable,
   fillTable,
@@ -106,13 +107,27 @@ fn fill(s: Session, sheet: &mut [u8], x: u16, y: u16, cols: u16, rows: u16, v: u
 
 // Writes the engine's map. A scan that is called from two places is not compiled into this function, whose frame would then hold the scan's working row
 // while exact runs.
-fn write_map(s: Session, sheet: &[u8], map: &mut [i16], scratch: &mut [i16], engine: u16)
-    requires { ⌜ firstOf (buildTable s (now sheet) (now map) (now scratch) engine) ≡ 0 ⌝ }
-    ensures map_left { λ r. ⌜ now (map .exit) ≡ engineMap s (now (sheet .entry)) engine ⌝ }
+fn write_map(
+    s: Session,
+    sheet: &[u8],
+    map: &mut [i16],
+    values: &mut [u16],
+    scratch: &mut [i16],
+    engine: u16,
+)
+    requires { ⌜ firstOf (buildTable s (now sheet) (maps (now map) (now values)) (now scratch) engine) ≡ 0 ⌝ }
+    ensures map_left { λ r. ⌜ now (map .exit) ≡ pairsBuilt s (now (sheet .entry)) engine (now (map .entry)) ⌝ }
+    ensures values_left { λ r. ⌜ now (values .exit) ≡ valuesBuilt s (now (sheet .entry)) engine (now (values .entry)) ⌝ }
     ensures scratch_left { λ r. ⌜ now (scratch .exit) ≡ cond (eqb engine 1) (scratchBy s (now (scratch .entry))) (now (scratch .entry)) ⌝ }
 {
     let w = s.width as usize;
     let h = s.height as usize;
+    if cutter::by_values(engine) {
+        let side = chamfer::side_weight(engine);
+        let corner = chamfer::corner_weight(engine);
+        chamfer::chamfer(sheet, values, w, h, side, corner);
+        return;
+    }
     if engine == 1 {
         exact::exact(sheet, map, scratch, w, h);
         return;
@@ -198,28 +213,41 @@ impl Session {
         replied(answer, state::stale_of(self), self)
     }
 
-    // Builds the map with engine 1 exact, 2 8SED or 3 4SED; it is current then, the cutter up.
-    pub fn build(mut self, sheet: &[u8], map: &mut [i16], scratch: &mut [i16], engine: u16) -> Reply
-        ensures answered { λ r. ⌜ r .answer ≡ firstOf (buildTable self (now (sheet .entry)) (now (map .entry)) (now (scratch .entry)) engine) ⌝ }
+    // Builds the map of pairs with engine 1 exact, 2 8SED or 3 4SED, or the map of values with 4 city block, 5 chessboard or 6 chamfer; it is current then,
+    // the cutter up.
+    pub fn build(
+        mut self,
+        sheet: &[u8],
+        map: &mut [i16],
+        values: &mut [u16],
+        scratch: &mut [i16],
+        engine: u16,
+    ) -> Reply
+        ensures answered { λ r. ⌜ r .answer
+            ≡ firstOf (buildTable self (now (sheet .entry)) (maps (now (map .entry)) (now (values .entry))) (now (scratch .entry)) engine) ⌝ }
         ensures handed_back { λ r. ⌜ r .session ≡ onDone (r .answer) (builtBy engine self) self ⌝ }
-        ensures map_left { λ r. ⌜ now (map .exit) ≡ onDone (r .answer) (engineMap self (now (sheet .entry)) engine) (now (map .entry)) ⌝ }
+        ensures map_left { λ r. ⌜ now (map .exit) ≡ onDone (r .answer) (pairsBuilt self (now (sheet .entry)) engine (now (map .entry))) (now (map .entry)) ⌝ }
+        ensures values_left { λ r. ⌜ now (values .exit)
+            ≡ onDone (r .answer) (valuesBuilt self (now (sheet .entry)) engine (now (values .entry))) (now (values .entry)) ⌝ }
         ensures scratch_left { λ r. ⌜ now (scratch .exit)
             ≡ cond (eqb (r .answer) 0 && eqb engine 1) (scratchBy self (now (scratch .entry))) (now (scratch .entry)) ⌝ }
     {
-        let answer = refusals::build_answer(self, sheet, map, scratch, engine);
+        let answer = refusals::build_answer(self, sheet, map, values, scratch, engine);
         let reply = replied(answer, state::built_by(self, engine), self);
         if answer == 0 {
-            write_map(self, sheet, map, scratch, engine);
+            write_map(self, sheet, map, values, scratch, engine);
         }
         reply
     }
 
-    // Brings the cutter down at (x, y) with squared radius q, also where it was down before; the closest approach is then that pixel's size.
-    pub fn place(mut self, map: &[i16], x: u16, y: u16, q: u32) -> Reply
-        ensures answered { λ r. ⌜ r .answer ≡ firstOf (placeTable self (now (map .entry)) x y q) ⌝ }
-        ensures handed_back { λ r. ⌜ r .session ≡ onDone (r .answer) (placeSession self (now (map .entry)) x y q) self ⌝ }
+    // Brings the cutter down at (x, y) with squared radius q, also where it was down before; the closest approach is then that pixel's size. It reads the kind
+    // of map that was built last.
+    pub fn place(mut self, map: &[i16], values: &[u16], x: u16, y: u16, q: u32) -> Reply
+        ensures answered { λ r. ⌜ r .answer ≡ firstOf (placeTable self (maps (now (map .entry)) (now (values .entry))) x y q) ⌝ }
+        ensures handed_back { λ r. ⌜ r .session
+            ≡ onDone (r .answer) (placeSession self (maps (now (map .entry)) (now (values .entry))) x y q) self ⌝ }
     {
-        let refusal = refusals::place_refusal(self, map, x, y, q);
+        let refusal = refusals::place_refusal(self, map, values, x, y, q);
         if refusal != 0 {
             return Reply {
                 answer: refusal,
@@ -227,24 +255,26 @@ impl Session {
             };
         }
         let none = Closest::NONE;
-        let look = cutter::look_at(state::cutter_of(self, x, y, q), map, none);
+        let look = cutter::look_at(state::cutter_of(self, x, y, q), map, values, none);
         let placed = state::down_at(self, x, y, q, look.closest);
         replied(refusals::gate_answer(look.blocked), placed, self)
     }
 
-    // Moves the lowered cutter by `count` steps, whole or not at all; its pixels count for the closest approach.
-    pub fn run(mut self, map: &[i16], direction: u16, count: u16) -> Reply
-        ensures answered { λ r. ⌜ r .answer ≡ firstOf (runTable self (now (map .entry)) direction count) ⌝ }
-        ensures handed_back { λ r. ⌜ r .session ≡ onDone (r .answer) (runSession self (now (map .entry)) direction count) self ⌝ }
+    // Moves the lowered cutter by `count` steps, whole or not at all; its pixels count for the closest approach. It reads the kind of map that was built last.
+    pub fn run(mut self, map: &[i16], values: &[u16], direction: u16, count: u16) -> Reply
+        ensures answered { λ r. ⌜ r .answer ≡ firstOf (runTable self (maps (now (map .entry)) (now (values .entry))) direction count) ⌝ }
+        ensures handed_back { λ r. ⌜ r .session
+            ≡ onDone (r .answer) (runSession self (maps (now (map .entry)) (now (values .entry))) direction count) self ⌝ }
     {
-        let refusal = refusals::run_refusal(self, map, direction, count);
+        let refusal = refusals::run_refusal(self, map, values, direction, count);
         if refusal != 0 {
             return Reply {
                 answer: refusal,
                 session: self,
             };
         }
-        let look = cutter::look_along(state::own_cutter(self), map, direction, count, self.closest);
+        let own = state::own_cutter(self);
+        let look = cutter::look_along(own, map, values, direction, count, self.closest);
         let moved = run_to(self, direction, count, look.closest);
         replied(refusals::gate_answer(look.blocked), moved, self)
     }
@@ -350,7 +380,7 @@ impl Session {
         }
     }
 
-    // Row y of the map, two numbers a pixel: the part of the map that holds it, or an empty part.
+    // Row y of the map of pairs, two numbers a pixel: the part of the map that holds it, or an empty part.
     pub fn map_row(self, map: &[i16], y: u16) -> &[i16]
         ensures { λ r. ⌜ now r ≡ mapRow self (now (map .entry)) y ⌝ }
     {

@@ -4,6 +4,7 @@ ghost use mathlib.Core.Path.{_≡_};
 ghost use mathlib.Core.Bool.{cond};
 ghost use Prim.Native.Nat.{_*_};
 ghost use Rattle.raster.specs.Refusal.{firstOf};
+ghost use Rattle.cutter.specs.Kinds.{maps, hasPixels};
 ghost use Rattle.session.specs.Refusals.{isMap, openTable, fillTable, resizeTable, readTable, buildTable, placeRows, runRows};
 use crate::Session;
 use crate::state;
@@ -18,6 +19,16 @@ pub fn is_map(s: Session, map: &[i16]) -> bool
     ensures { λ r. ⌜ r ≡ isMap s (now (map .entry)) ⌝ }
 {
     map.len() == 2 * pixels_of(s)
+}
+
+// A map of the session's pixels, of the kind that the engine writes.
+pub fn is_map_by(engine: u16, s: Session, map: &[i16], values: &[u16]) -> bool
+    ensures { λ r. ⌜ r ≡ hasPixels engine (s .height * s .width) (maps (now (map .entry)) (now (values .entry))) ⌝ }
+{
+    if cutter::by_values(engine) {
+        return values.len() == pixels_of(s);
+    }
+    is_map(s, map)
 }
 
 pub fn open_answer(sheet: &[u8], w: u16, h: u16) -> u32
@@ -88,8 +99,15 @@ pub fn read_answer(s: Session, map: &[i16], wrong: bool) -> u32
     0
 }
 
-pub fn build_answer(s: Session, sheet: &[u8], map: &[i16], scratch: &[i16], engine: u16) -> u32
-    ensures { λ r. ⌜ r ≡ firstOf (buildTable s (now (sheet .entry)) (now (map .entry)) (now (scratch .entry)) engine) ⌝ }
+pub fn build_answer(
+    s: Session,
+    sheet: &[u8],
+    map: &[i16],
+    values: &[u16],
+    scratch: &[i16],
+    engine: u16,
+) -> u32
+    ensures { λ r. ⌜ r ≡ firstOf (buildTable s (now (sheet .entry)) (maps (now (map .entry)) (now (values .entry))) (now (scratch .entry)) engine) ⌝ }
 {
     if !state::is_active(s) {
         return 30;
@@ -97,7 +115,7 @@ pub fn build_answer(s: Session, sheet: &[u8], map: &[i16], scratch: &[i16], engi
     let need = exact::scratch_need(s.width);
     let n = pixels_of(s);
     let short = (engine == 1) & (scratch.len() < need);
-    let slices = (sheet.len() != n) | (!is_map(s, map) | short);
+    let slices = (sheet.len() != n) | (!is_map_by(engine, s, map, values) | short);
     let unknown = !cutter::is_engine(engine);
     if slices {
         return 12;
@@ -108,13 +126,13 @@ pub fn build_answer(s: Session, sheet: &[u8], map: &[i16], scratch: &[i16], engi
     0
 }
 
-pub fn place_refusal(s: Session, map: &[i16], x: u16, y: u16, q: u32) -> u32
-    ensures { λ r. ⌜ r ≡ firstOf (placeRows s (now (map .entry)) x y q) ⌝ }
+pub fn place_refusal(s: Session, map: &[i16], values: &[u16], x: u16, y: u16, q: u32) -> u32
+    ensures { λ r. ⌜ r ≡ firstOf (placeRows s (maps (now (map .entry)) (now (values .entry))) x y q) ⌝ }
 {
     if !state::is_active(s) {
         return 30;
     }
-    if !is_map(s, map) {
+    if !is_map_by(s.engine, s, map, values) {
         return 12;
     }
     if Session::MAX_Q < q {
@@ -129,13 +147,13 @@ pub fn place_refusal(s: Session, map: &[i16], x: u16, y: u16, q: u32) -> u32
     0
 }
 
-pub fn run_refusal(s: Session, map: &[i16], d: u16, n: u16) -> u32
-    ensures { λ r. ⌜ r ≡ firstOf (runRows s (now (map .entry)) d n) ⌝ }
+pub fn run_refusal(s: Session, map: &[i16], values: &[u16], d: u16, n: u16) -> u32
+    ensures { λ r. ⌜ r ≡ firstOf (runRows s (maps (now (map .entry)) (now (values .entry))) d n) ⌝ }
 {
     if !state::is_active(s) {
         return 30;
     }
-    if !is_map(s, map) {
+    if !is_map_by(s.engine, s, map, values) {
         return 12;
     }
     if (7 < d) | !((1 <= n) & (n <= Session::MAX_COUNT)) {

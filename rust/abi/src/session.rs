@@ -4,10 +4,14 @@
 //! slices of any length and sessions with any fields get the answer that is theirs, and none of the calls panics. A refusal hands the
 //! session back as it came and writes nothing.
 //!
+//! Two kinds of map are lent. In `map`, of 2 × W × H numbers, engines 1 exact, 2 8SED and 3 4SED write a pair a pixel, dx and dy, both
+//! −32,768 where it is unlabelled. In `values`, of W × H numbers, engines 4 city block, 5 chessboard and 6 chamfer write one number a pixel,
+//! 65,535 where it is unlabelled. A call tests the length of the kind that it reads or writes and leaves the other kind alone.
+//!
 //! ```
 //! use abi::session::{Reply, Session};
 //!
-//! let (mut sheet, mut map) = ([7; 16], [7; 32]);
+//! let (mut sheet, mut map, mut values) = ([7; 16], [7; 32], [7; 16]);
 //! let mut session = Session::fresh();
 //! let mut answers = Vec::new();
 //! let mut take = |reply: Reply, session: &mut Session| {
@@ -18,19 +22,27 @@
 //! for (x, y) in [(3, 0), (0, 3), (2, 2)] {
 //!     take(session.paint(&mut sheet, x, y, 1, 1), &mut session);
 //! }
-//! take(session.build(&sheet, &mut map, &mut [], 3), &mut session);
-//! take(session.place(&map, 0, 0, 5), &mut session);
-//! take(session.place(&map, 0, 0, 4), &mut session);
-//! take(session.run(&map, 0, 1), &mut session);
+//! take(session.build(&sheet, &mut map, &mut values, &mut [], 3), &mut session);
+//! take(session.place(&map, &values, 0, 0, 5), &mut session);
+//! take(session.place(&map, &values, 0, 0, 4), &mut session);
+//! take(session.run(&map, &values, 0, 1), &mut session);
 //! take(session.lift(), &mut session);
 //! assert_eq!(answers, [0, 0, 0, 0, 0, 34, 0, 34, 0]);
 //! assert_eq!(session.map_row(&map, 0), [3, 0, 2, 0, 1, 0, 0, 0]);
-//! assert_eq!(session.closest.get(), Some(9));
+//! assert_eq!((session.closest.get(), values), (Some(9), [7; 16]));
+//!
+//! // a draft: its map is in the values, and the pairs are not needed
+//! let draft = session.build(&sheet, &mut [], &mut values, &mut [], 6).session;
+//! assert_eq!(values[..4], [8, 6, 3, 0]);
+//! assert_eq!(draft.place(&[], &values, 0, 0, 7).answer, 34);
+//! let down = draft.place(&[], &values, 0, 0, 6);
+//! assert_eq!((down.answer, down.session.closest.get()), (0, Some(64)));
 //! ```
 
 /// The closest approach: the least size, on the current map, of the labelled pixels that the cutter has met since the last placing that was
-/// done, the placed one among them. On an exact map it is their least true squared distance to copper. There is none before any placing, nor
-/// after a call that has changed the sheet or the map; lift keeps it, and so does every refusal.
+/// done, the placed one among them. The size of a pair is dx² + dy², that of a value its square. On an exact map it is their least true
+/// squared distance to copper. There is none before any placing, nor after a call that has changed the sheet or the map; lift keeps it, and
+/// so does every refusal.
 #[repr(C)]
 #[derive(Clone, Copy, Debug, PartialEq, Eq)]
 pub struct Closest {
@@ -63,7 +75,7 @@ pub struct Session {
     pub height: u16,
     /// Whether the map is current.
     pub current: bool,
-    /// The engine that built the map: 1 exact, 2 8SED, 3 4SED.
+    /// The engine that built the map: 1 exact, 2 8SED, 3 4SED, 4 city block, 5 chessboard, 6 chamfer.
     pub engine: u16,
     /// Whether the cutter is down.
     pub lowered: bool,
@@ -111,12 +123,31 @@ mod ffi {
             sheet_len: usize,
             map: *mut i16,
             map_len: usize,
+            values: *mut u16,
+            values_len: usize,
             scratch: *mut i16,
             scratch_len: usize,
             engine: u16,
         ) -> Reply;
-        pub fn abi_session_place(s: Session, map: *const i16, map_len: usize, x: u16, y: u16, q: u32) -> Reply;
-        pub fn abi_session_run(s: Session, map: *const i16, map_len: usize, direction: u16, count: u16) -> Reply;
+        pub fn abi_session_place(
+            s: Session,
+            map: *const i16,
+            map_len: usize,
+            values: *const u16,
+            values_len: usize,
+            x: u16,
+            y: u16,
+            q: u32,
+        ) -> Reply;
+        pub fn abi_session_run(
+            s: Session,
+            map: *const i16,
+            map_len: usize,
+            values: *const u16,
+            values_len: usize,
+            direction: u16,
+            count: u16,
+        ) -> Reply;
         pub fn abi_session_lift(s: Session) -> Reply;
         pub fn abi_session_expand(
             s: Session,
@@ -178,28 +209,33 @@ impl Session {
         unsafe { ffi::abi_session_erase(self, sheet.as_mut_ptr(), sheet.len(), x, y, w, h) }
     }
 
-    /// Builds the map by engine 1 exact, 2 8SED or 3 4SED. It is then current, the cutter up. The map has 2 × W × H numbers. Exact needs
-    /// scratch of at least 4 × W numbers, of which it leaves the first 4 × W at 0 and the rest untouched; no other engine tests or writes
-    /// scratch. Refusals: 30, 12, 14.
-    pub fn build(self, sheet: &[u8], map: &mut [i16], scratch: &mut [i16], engine: u16) -> Reply {
+    /// Builds the map by an engine, 1 to 6. It is then current, the cutter up. Engines 1 to 3 write the pairs and do not look at the values,
+    /// 4 to 6 write the values and do not look at the pairs; any other number tests the pairs and is refused. Exact needs scratch of at least
+    /// 4 × W numbers, of which it leaves the first 4 × W at 0 and the rest untouched; no other engine tests or writes scratch. Refusals: 30,
+    /// 12, 14.
+    pub fn build(self, sheet: &[u8], map: &mut [i16], values: &mut [u16], scratch: &mut [i16], engine: u16) -> Reply {
+        let (sheet, sheet_len) = (sheet.as_ptr(), sheet.len());
         let (map, map_len) = (map.as_mut_ptr(), map.len());
-        // SAFETY: each pointer comes with the length of the slice it is from, map and scratch are lent to nobody else, and the function has
-        // no `requires`. It is proved to return and to stay within the three slices.
-        unsafe { ffi::abi_session_build(self, sheet.as_ptr(), sheet.len(), map, map_len, scratch.as_mut_ptr(), scratch.len(), engine) }
+        let (values, values_len) = (values.as_mut_ptr(), values.len());
+        let (scratch, scratch_len) = (scratch.as_mut_ptr(), scratch.len());
+        // SAFETY: each pointer comes with the length of the slice it is from, map, values and scratch are lent to nobody else, and the
+        // function has no `requires`. It is proved to return and to stay within the four slices.
+        unsafe { ffi::abi_session_build(self, sheet, sheet_len, map, map_len, values, values_len, scratch, scratch_len, engine) }
     }
 
-    /// Places the cutter at (x, y) with q; the closest approach is that pixel's size. Refusals: 30, 12, 15, 16, 31, 34.
-    pub fn place(self, map: &[i16], x: u16, y: u16, q: u32) -> Reply {
-        // SAFETY: the pointer comes with the length of the slice it is from, and the function has no `requires`. It is proved to return, to
-        // stay within the slice and to write nothing there.
-        unsafe { ffi::abi_session_place(self, map.as_ptr(), map.len(), x, y, q) }
+    /// Places the cutter at (x, y) with q; the closest approach is that pixel's size. The kind of map that was built last is tested and read,
+    /// the values after engines 4 to 6 and the pairs otherwise, also if no map is current. Refusals: 30, 12, 15, 16, 31, 34.
+    pub fn place(self, map: &[i16], values: &[u16], x: u16, y: u16, q: u32) -> Reply {
+        // SAFETY: each pointer comes with the length of the slice it is from, and the function has no `requires`. It is proved to return, to
+        // stay within the two slices and to write nothing there.
+        unsafe { ffi::abi_session_place(self, map.as_ptr(), map.len(), values.as_ptr(), values.len(), x, y, q) }
     }
 
     /// Runs the lowered cutter `count` steps in one of the eight directions, clockwise from east; the pixels that it comes to count for the
-    /// closest approach. Refusals: 30, 12, 17, 32, 33, 34.
-    pub fn run(self, map: &[i16], direction: u16, count: u16) -> Reply {
+    /// closest approach. It tests and reads the same kind of map as [`Session::place`]. Refusals: 30, 12, 17, 32, 33, 34.
+    pub fn run(self, map: &[i16], values: &[u16], direction: u16, count: u16) -> Reply {
         // SAFETY: as in `place`.
-        unsafe { ffi::abi_session_run(self, map.as_ptr(), map.len(), direction, count) }
+        unsafe { ffi::abi_session_run(self, map.as_ptr(), map.len(), values.as_ptr(), values.len(), direction, count) }
     }
 
     /// Lifts the cutter, which is done also if it was up; the closest approach stays. A session that counts as one with nothing open becomes a
@@ -209,9 +245,9 @@ impl Session {
         unsafe { ffi::abi_session_lift(self) }
     }
 
-    /// Expands the sheet by q: a pixel is 1 afterwards if its true squared distance is at most q, otherwise 0. The map, of 2 × W × H
-    /// numbers, is left unlabelled and not current, the cutter up. Scratch of at least 4 × W numbers is needed and left as by exact, the
-    /// first 4 × W at 0 and the rest untouched. Refusals: 30, 12, 15.
+    /// Expands the sheet by q: a pixel is 1 afterwards if its true squared distance is at most q, otherwise 0. The pairs are left
+    /// unlabelled, no map is current, the cutter up. Scratch of at least 4 × W numbers is needed and left as by exact, the first 4 × W at 0
+    /// and the rest untouched. Refusals: 30, 12, 15.
     pub fn expand(self, sheet: &mut [u8], map: &mut [i16], scratch: &mut [i16], q: u32) -> Reply {
         let (map, map_len) = (map.as_mut_ptr(), map.len());
         // SAFETY: each pointer comes with the length of the slice it is from, the three slices are lent to nobody else, and the function
@@ -242,8 +278,8 @@ impl Session {
         unsafe { ffi::abi_session_rebuild(self, map.as_ptr(), map.len(), marks.as_ptr(), marks.len(), out.as_mut_ptr(), out.len()) }
     }
 
-    /// The part of the map that holds row y. It is empty, and from the map's start, if nothing is open, y is not below the height, or the map has
-    /// a wrong length.
+    /// The part of the pairs that holds row y, whatever built them. It is empty, and from their start, if nothing is open, y is not below the
+    /// height, or they have a wrong length.
     pub fn map_row(self, map: &[i16], y: u16) -> &[i16] {
         // SAFETY: as in `place`.
         let span = unsafe { ffi::abi_session_row(self, map.as_ptr(), map.len(), y) };

@@ -1,29 +1,12 @@
 //! The boards of documents 01 and 02, and document 01's edges, call by call: each test is run on the library's session and on the model's.
 
+mod either;
+
+use either::{cut, every_set, on_either, told, unless};
 use model::boards::{self, Board};
 use model::calls::Calls;
 use model::session::{scratch_need, Fields};
 use soak::calls::{Call, Slices};
-use soak::library::Library;
-
-/// Makes a test of each function for the model's session, and one for the library's.
-macro_rules! on_either {
-    ($($test:ident),+ $(,)?) => {
-        mod model_session {
-            $(#[test]
-            fn $test() {
-                super::$test::<super::Fields>();
-            })+
-        }
-
-        mod library_session {
-            $(#[test]
-            fn $test() {
-                super::$test::<super::Library>();
-            })+
-        }
-    };
-}
 
 on_either!(
     fresh,
@@ -46,12 +29,7 @@ on_either!(
     order_of_refusals,
 );
 
-/// What a call hands back, as the model records it.
-fn told<S: Calls>((answer, session): (u32, S)) -> (u32, Fields) {
-    (answer, session.into())
-}
-
-/// A session with the sheet of a board and its map by an engine, and that map.
+/// A session with the sheet of a board and its map by engine 1, 2 or 3, and that map. No values are lent to these engines.
 fn built<S: Calls>(board: &Board, engine: u16) -> (Fields, Vec<i16>) {
     let (w, h) = board.sides();
     let (pixels, need) = (board.sheet.len(), scratch_need(board.w));
@@ -62,7 +40,7 @@ fn built<S: Calls>(board: &Board, engine: u16) -> (Fields, Vec<i16>) {
         (answer, session) = session.paint(&mut sheet, x, y, 1, 1);
     }
     assert_eq!((answer, &sheet), (0, &board.sheet));
-    (answer, session) = session.build(&sheet, &mut map, &mut scratch, engine);
+    (answer, session) = session.build(&sheet, &mut map, &mut [], &mut scratch, engine);
     assert_eq!(answer, 0);
     let left = if engine == 1 { 0 } else { 9 };
     assert!(scratch[..need].iter().all(|&number| number == left) && scratch[need] == 9);
@@ -78,12 +56,12 @@ fn fresh<S: Calls>() {
 
 fn job<S: Calls>() {
     let (session, map) = built::<S>(&boards::document_01(), 3);
-    assert_eq!(told(S::from(session).place(&map, 0, 0, 5)), (34, session));
-    let (answer, down) = S::from(session).place(&map, 0, 0, 4);
-    assert_eq!((answer, told(down.run(&map, 0, 1))), (0, (34, down.into())));
+    assert_eq!(told(S::from(session).place(&map, &[], 0, 0, 5)), (34, session));
+    let (answer, down) = S::from(session).place(&map, &[], 0, 0, 4);
+    assert_eq!((answer, told(down.run(&map, &[], 0, 1))), (0, (34, down.into())));
     let lifted = Fields { met: true, closest: 9, ..session };
     assert_eq!(told(down.lift()), (0, lifted));
-    assert_eq!(told(S::from(lifted).run(&map, 0, 1)), (32, lifted));
+    assert_eq!(told(S::from(lifted).run(&map, &[], 0, 1)), (32, lifted));
 }
 
 /// The largest q that passes at the upper left corner is M2, M3, M4.
@@ -91,11 +69,11 @@ fn m1_to_m4<S: Calls>() {
     for (engine, way, most) in [(1, [2, 2], 7), (2, [2, 2], 6), (3, [3, 0], 4)] {
         let (session, map) = built::<S>(&boards::document_01(), engine);
         assert_eq!(map[..2], way);
-        let (answer, down) = S::from(session).place(&map, 0, 0, most);
+        let (answer, down) = S::from(session).place(&map, &[], 0, 0, most);
         let closest = if engine == 3 { 9 } else { 8 };
         assert_eq!((answer, down.into()), (0, Fields { lowered: true, q: most, met: true, closest, ..session }));
         for session in [S::from(session), down] {
-            assert_eq!(told(session.place(&map, 0, 0, most + 1)), (34, session.into()));
+            assert_eq!(told(session.place(&map, &[], 0, 0, most + 1)), (34, session.into()));
         }
     }
 }
@@ -120,7 +98,7 @@ fn assert_closest<S: Calls>(calls: &[(Call, u32, Option<u32>)]) {
     let board = boards::document_01();
     let (mut session, map) = built::<S>(&board, 1);
     assert!(!session.met);
-    let mut slices = Slices { sheet: board.sheet, map, scratch: vec![0; 16], marks: vec![1; 16], out: vec![0; 16] };
+    let mut slices = Slices { sheet: board.sheet, map, values: vec![0; 16], scratch: vec![0; 16], marks: vec![1; 16], out: vec![0; 16] };
     for (at, &(call, answer, closest)) in calls.iter().enumerate() {
         let found;
         (found, session) = told(call.make(S::from(session), slices.lend()));
@@ -137,7 +115,7 @@ fn c11<S: Calls>() {
     let anew = [(place(0, 0, 1), 0, Some(8)), (run(0, 2), 34, Some(8)), (run(4, 1), 33, Some(8)), (run(1, 1), 0, Some(2))];
     let kept = [(place(0, 0, 8), 34, Some(2)), (place(4, 0, 1), 16, Some(2)), (Call::Lift, 0, Some(2)), (run(0, 1), 32, Some(2))];
     let others =
-        [(Call::Skeleton, 0, Some(2)), (Call::Rebuild, 0, Some(2)), (Call::Build { engine: 4 }, 14, Some(2)), (Call::Lift, 0, Some(2))];
+        [(Call::Skeleton, 0, Some(2)), (Call::Rebuild, 0, Some(2)), (Call::Build { engine: 7 }, 14, Some(2)), (Call::Lift, 0, Some(2))];
     assert_closest::<S>(&[&placed[..], &anew, &kept, &others].concat());
     let changes = [
         Call::Open { w: 4, h: 4 },
@@ -145,6 +123,7 @@ fn c11<S: Calls>() {
         Call::Erase { x: 0, y: 0, w: 1, h: 1 },
         Call::Build { engine: 1 },
         Call::Build { engine: 2 },
+        Call::Build { engine: 6 },
         Call::Expand { q: 0 },
         Call::Shrink { q: 0 },
     ];
@@ -158,13 +137,13 @@ fn c11<S: Calls>() {
 fn c11_none<S: Calls>() {
     for engine in 1..=3 {
         let (session, mut map) = built::<S>(&Board::bare(4, 1), engine);
-        let (answer, down) = told(S::from(session).place(&map, 0, 0, 9));
+        let (answer, down) = told(S::from(session).place(&map, &[], 0, 0, 9));
         assert_eq!((answer, down), (0, Fields { lowered: true, q: 9, ..session }));
-        assert_eq!(told(S::from(down).run(&map, 0, 3)), (0, Fields { x: 3, ..down }));
+        assert_eq!(told(S::from(down).run(&map, &[], 0, 3)), (0, Fields { x: 3, ..down }));
         map[2..6].copy_from_slice(&[-32_768, 32_767, 0, 100]);
-        assert_eq!(told(S::from(down).run(&map, 0, 1)), (0, Fields { x: 1, met: true, closest: 2_147_418_113, ..down }));
+        assert_eq!(told(S::from(down).run(&map, &[], 0, 1)), (0, Fields { x: 1, met: true, closest: 2_147_418_113, ..down }));
         // the least is that of a pixel on the way, and the last one is unlabelled
-        assert_eq!(told(S::from(down).run(&map, 0, 3)), (0, Fields { x: 3, met: true, closest: 10_000, ..down }));
+        assert_eq!(told(S::from(down).run(&map, &[], 0, 3)), (0, Fields { x: 3, met: true, closest: 10_000, ..down }));
     }
 }
 
@@ -176,10 +155,10 @@ fn c11_any_size<S: Calls>() {
         let down = Fields { lowered: true, ..up };
         assert_eq!(told(S::from(up).lift()), (0, up));
         assert_eq!(told(S::from(down).lift()), (0, up));
-        assert_eq!(told(S::from(down).run(&map, 0, 1)), (0, Fields { x: 1, closest: closest.min(4), ..down }));
-        assert_eq!(told(S::from(down).run(&[-32_768; 32], 0, 1)), (0, Fields { x: 1, ..down }));
-        assert_eq!(told(S::from(down).place(&map, 0, 0, 0)), (0, Fields { closest: 8, ..down }));
-        assert_eq!(told(S::from(up).place(&[-32_768; 32], 0, 0, 0)), (0, Fields { lowered: true, ..session }));
+        assert_eq!(told(S::from(down).run(&map, &[], 0, 1)), (0, Fields { x: 1, closest: closest.min(4), ..down }));
+        assert_eq!(told(S::from(down).run(&[-32_768; 32], &[], 0, 1)), (0, Fields { x: 1, ..down }));
+        assert_eq!(told(S::from(down).place(&map, &[], 0, 0, 0)), (0, Fields { closest: 8, ..down }));
+        assert_eq!(told(S::from(up).place(&[-32_768; 32], &[], 0, 0, 0)), (0, Fields { lowered: true, ..session }));
     }
 }
 
@@ -193,7 +172,7 @@ fn c14<S: Calls>() {
         assert_eq!(sheet, rest, "by {q}");
     }
     let (session, mut map) = built::<S>(&Board::bare(3, 3), 1);
-    assert_eq!(S::from(session).place(&map, 0, 0, 4_194_304).0, 0);
+    assert_eq!(S::from(session).place(&map, &[], 0, 0, 4_194_304).0, 0);
     let mut sheet = [0; 9];
     assert_eq!(S::from(session).expand(&mut sheet, &mut map, &mut [9; 12], 4_194_304).0, 0);
     assert_eq!(sheet, [0; 9]);
@@ -206,15 +185,15 @@ fn c16<S: Calls>() {
     }
 }
 
-/// Scratch of 4 × W numbers is enough and no less, however many rows there are; these end at 0 and the rest is untouched. The quick maps
+/// Scratch of 4 × W numbers is enough and no less, however many rows there are; these end at 0 and the rest is untouched. The other engines
 /// ask for none.
 fn c22<S: Calls>() {
     for (w, h) in [(1, 1), (1, 3), (1, 4), (1, 5), (3, 1), (3, 2), (3, 3), (3, 4), (3, 5), (2_048, 1), (2_048, 3), (2_048, 4), (1, 2_048)] {
         for length in [4 * w - 1, 4 * w, 4 * w + 1, w * h - 1, w * h, w * h + 1, 0] {
             let short = length < 4 * w;
             let exact = [Call::Build { engine: 1 }, Call::Expand { q: 1 }, Call::Shrink { q: 1 }].map(|call| (call, short, !short));
-            let quick = [2, 3].map(|engine| (Call::Build { engine }, false, false));
-            for (call, refused, cleared) in exact.into_iter().chain(quick) {
+            let others = (2..=6).map(|engine| (Call::Build { engine }, false, false));
+            for (call, refused, cleared) in exact.into_iter().chain(others) {
                 let answer = if refused { 12 } else { 0 };
                 let left = |at: usize| if cleared && at < 4 * w { 0 } else { 9 };
                 assert_scratch::<S>(&boards::one_pixel(w, h), call, length, answer, left);
@@ -227,13 +206,21 @@ fn c22<S: Calls>() {
 fn assert_scratch<S: Calls>(board: &Board, call: Call, length: usize, answer: u32, left: impl Fn(usize) -> i16) {
     let (width, height) = board.sides();
     let session = Fields { opened: true, width, height, ..Fields::FRESH };
-    let map = vec![9; 2 * board.sheet.len()];
-    let mut slices = Slices { sheet: board.sheet.clone(), map: map.clone(), scratch: vec![9; length], marks: vec![], out: vec![] };
+    let (map, values) = (vec![9; 2 * board.sheet.len()], vec![9; board.sheet.len()]);
+    let mut slices = Slices {
+        sheet: board.sheet.clone(),
+        map: map.clone(),
+        values: values.clone(),
+        scratch: vec![9; length],
+        marks: vec![],
+        out: vec![],
+    };
     let (found, after) = told(call.make(S::from(session), slices.lend()));
     let about = format!("{call:?} with scratch of {length} on {width} × {height}");
     assert_eq!(found, answer, "{about}");
     assert!(slices.scratch.iter().enumerate().all(|(at, &number)| number == left(at)), "scratch: {about}");
-    assert!(answer == 0 || slices.sheet == board.sheet && slices.map == map && after == session, "written: {about}");
+    let untouched = slices.sheet == board.sheet && slices.map == map && slices.values == values;
+    assert!(answer == 0 || untouched && after == session, "written: {about}");
 }
 
 fn limits<S: Calls>() {
@@ -243,11 +230,11 @@ fn limits<S: Calls>() {
     assert!(sheet.iter().all(|&byte| byte == 1));
     assert_eq!(S::fresh().open(&mut sheet[..2_048], 2_048, 1).0, 0);
     let (session, map) = built::<S>(&Board::bare(2_048, 1), 2);
-    assert_eq!(told(S::from(session).place(&map, 0, 0, 4_194_305)), (15, session));
-    let (answer, down) = S::from(session).place(&map, 0, 0, 4_194_304);
-    assert_eq!((answer, told(down.run(&map, 0, 2_048))), (0, (17, down.into())));
-    assert_eq!(told(down.run(&map, 0, 2_047)), (0, Fields { x: 2_047, ..down.into() }));
-    assert_eq!(told(down.run(&map, 1, 1)), (33, down.into()));
+    assert_eq!(told(S::from(session).place(&map, &[], 0, 0, 4_194_305)), (15, session));
+    let (answer, down) = S::from(session).place(&map, &[], 0, 0, 4_194_304);
+    assert_eq!((answer, told(down.run(&map, &[], 0, 2_048))), (0, (17, down.into())));
+    assert_eq!(told(down.run(&map, &[], 0, 2_047)), (0, Fields { x: 2_047, ..down.into() }));
+    assert_eq!(told(down.run(&map, &[], 1, 1)), (33, down.into()));
 }
 
 /// With a side of 0 or above 2,048 nothing counts as open, also with slices of these sides; nothing is written.
@@ -257,16 +244,17 @@ fn sides_that_no_sheet_has<S: Calls>() {
         let lent = Slices {
             sheet: vec![1; pixels],
             map: vec![0; 2 * pixels],
+            values: vec![0; pixels],
             scratch: vec![7; scratch_need(width.into())],
             marks: vec![1; pixels],
             out: vec![7; pixels],
         };
-        for engine in [0, 1] {
-            let session = Fields { opened: true, width, height, current: engine == 1, engine, ..Fields::FRESH };
+        for engine in [0, 1, 4] {
+            let session = Fields { opened: true, width, height, current: engine != 0, engine, ..Fields::FRESH };
             let [open, paint] = [Call::Open { w: width, h: height }, Call::Paint { x: 0, y: 0, w: 1, h: 1 }];
-            let builds = [1, 2, 3].map(|engine| Call::Build { engine });
+            let builds = (1..=6).map(|engine| Call::Build { engine });
             let others = [paint, Call::Expand { q: 1 }, Call::Shrink { q: 1 }, Call::Skeleton, Call::Rebuild];
-            for (call, answer) in builds.into_iter().chain(others).map(|call| (call, 30)).chain([(open, 11)]) {
+            for (call, answer) in builds.chain(others).map(|call| (call, 30)).chain([(open, 11)]) {
                 let mut slices = lent.clone();
                 let found = told(call.make(S::from(session), slices.lend()));
                 assert_eq!(found, (answer, session), "{call:?} on {width} × {height}");
@@ -280,7 +268,7 @@ fn sides_that_no_sheet_has<S: Calls>() {
 fn no_call_could_hand_back<S: Calls>() {
     let (session, map) = built::<S>(&boards::document_01(), 3);
     let stale = Fields { current: false, engine: 0, ..session };
-    let down: Fields = S::from(session).place(&map, 0, 0, 4).1.into();
+    let down: Fields = S::from(session).place(&map, &[], 0, 0, 4).1.into();
     for session in [session, stale, down] {
         assert!(!session.closed());
         assert_eq!(S::from(session).map_row(&map, 0).len(), 8);
@@ -290,7 +278,7 @@ fn no_call_could_hand_back<S: Calls>() {
         Fields { height: 2_049, ..session },
         Fields { opened: false, ..session },
         Fields { engine: 0, ..session },
-        Fields { engine: 4, ..session },
+        Fields { engine: 7, ..session },
         Fields { current: false, ..session },
         Fields { q: 1, ..session },
         Fields { y: 1, ..stale },
@@ -314,7 +302,7 @@ fn no_call_could_hand_back<S: Calls>() {
     for fields in wrong {
         assert!(fields.closed(), "{fields:?}");
         let session = S::from(fields);
-        assert_eq!(told(session.place(&map, 0, 0, 4)), (30, fields));
+        assert_eq!(told(session.place(&map, &[], 0, 0, 4)), (30, fields));
         assert!(session.map_row(&map, 0).is_empty());
         assert_eq!(told(session.lift()), (0, Fields::FRESH));
         assert_eq!(told(session.open(&mut [1, 1], 2, 1)), told(S::fresh().open(&mut [1, 1], 2, 1)));
@@ -326,9 +314,9 @@ fn any_map<S: Calls>() {
     for engine in 1..=3 {
         let session = S::from(Fields { opened: true, width: 1, height: 1, current: true, engine, ..Fields::FRESH });
         for map in [[-32_768; 2], [-32_768, 0], [0, -32_768], [32_767, -32_768], [32_767; 2]] {
-            assert_eq!(session.place(&map, 0, 0, 4_194_304).0, 0, "{map:?} by engine {engine}");
+            assert_eq!(session.place(&map, &[], 0, 0, 4_194_304).0, 0, "{map:?} by engine {engine}");
         }
-        assert_eq!(session.place(&[0, 0], 0, 0, 0).0, 34);
+        assert_eq!(session.place(&[0, 0], &[], 0, 0, 0).0, 34);
         // the sizes around the gates at the largest q: 2,048², 169 / 144 and twice as much
         let around: [([i16; 2], u32); 2] = match engine {
             1 => [([2_048, 0], 34), ([2_048, 1], 0)],
@@ -336,7 +324,7 @@ fn any_map<S: Calls>() {
             _ => [([2_048, 2_048], 34), ([2_048, 2_049], 0)],
         };
         for (map, answer) in around {
-            assert_eq!(session.place(&map, 0, 0, 4_194_304).0, answer, "{map:?} by engine {engine}");
+            assert_eq!(session.place(&map, &[], 0, 0, 4_194_304).0, answer, "{map:?} by engine {engine}");
         }
     }
 }
@@ -346,7 +334,7 @@ fn expand_and_shrink<S: Calls>() {
     let (session, mut map) = built::<S>(&board, 3);
     let mut sheet = board.sheet.clone();
     let mut scratch = vec![9; 17];
-    let (answer, after) = S::from(session).place(&map, 0, 0, 4).1.expand(&mut sheet, &mut map, &mut scratch, 2);
+    let (answer, after) = S::from(session).place(&map, &[], 0, 0, 4).1.expand(&mut sheet, &mut map, &mut scratch, 2);
     let stale = Fields { current: false, engine: 0, ..session };
     assert_eq!((answer, after.into()), (0, stale));
     assert_eq!(sheet, [0, 0, 1, 1, 0, 1, 1, 1, 1, 1, 1, 1, 1, 1, 1, 1]);
@@ -371,22 +359,6 @@ fn rows<S: Calls>() {
     assert!(std::ptr::eq(S::fresh().map_row(&map, 1), &map[..0]));
 }
 
-/// Makes a call with every set of wrong things about it. It must answer 30 if that is among them, otherwise the lowest, and 0 if nothing is
-/// wrong.
-fn every_set(wrong: &[u32], call: impl Fn(&dyn Fn(u32) -> bool) -> u32) {
-    for set in 0..1 << wrong.len() {
-        let chosen: Vec<u32> = (0..wrong.len()).filter(|at| set >> at & 1 == 1).map(|at| wrong[at]).collect();
-        let expected = if chosen.contains(&30) { 30 } else { chosen.iter().copied().min().unwrap_or(0) };
-        assert_eq!(call(&|number| chosen.contains(&number)), expected, "{chosen:?}");
-    }
-}
-
-/// A slice without its last number if something is wrong with it.
-fn cut<T>(slice: &mut [T], wrong: bool) -> &mut [T] {
-    let length = slice.len();
-    &mut slice[..length - usize::from(wrong)]
-}
-
 /// Document 01's board as the refusals are tried on it: its sheet, its map by 4SED, and the session with the sheet open alone.
 struct Tried {
     sheet: Vec<u8>,
@@ -399,11 +371,6 @@ impl Tried {
     fn by(&self, engine: u16) -> Fields {
         Fields { current: engine != 0, engine, ..self.open }
     }
-}
-
-/// The session, or what is left of it if nothing is open.
-fn unless<S: Calls>(closed: bool, session: Fields) -> S {
-    S::from(Fields { opened: !closed, ..session })
 }
 
 fn order_of_refusals<S: Calls>() {
@@ -444,18 +411,18 @@ fn fill_refusals<S: Calls>(tried: &Tried) {
 }
 
 fn build_refusals<S: Calls>(tried: &Tried) {
-    for (which, other) in (0..3).flat_map(|which| [0, 4, 257, 65_535].map(|other| (which, other))) {
+    for (which, other) in (0..3).flat_map(|which| [0, 7, 257, 65_535].map(|other| (which, other))) {
         every_set(&[12, 14, 30], |wrong| {
             let (mut sheet, mut map, mut scratch) = (tried.sheet.clone(), tried.map.clone(), [9; 16]);
             // only exact tests scratch, so this does not go with another engine
             let [one, two, three] = [0, 1, 2].map(|slice| wrong(12) && which == slice);
             let number = if wrong(14) && !three { other } else { 1 };
             let scratch = cut(&mut scratch, three);
-            unless::<S>(wrong(30), tried.open).build(cut(&mut sheet, one), cut(&mut map, two), scratch, number).0
+            unless::<S>(wrong(30), tried.open).build(cut(&mut sheet, one), cut(&mut map, two), &mut [], scratch, number).0
         });
     }
-    for (number, answer) in [(2, 0), (3, 0), (0, 14), (4, 14)] {
-        let found = S::from(tried.open).build(&tried.sheet, &mut tried.map.clone(), &mut [], number).0;
+    for (number, answer) in [(2, 0), (3, 0), (0, 14), (7, 14)] {
+        let found = S::from(tried.open).build(&tried.sheet, &mut tried.map.clone(), &mut [], &mut [], number).0;
         assert_eq!(found, answer, "engine {number} without scratch");
     }
 }
@@ -475,7 +442,7 @@ fn place_refusals<S: Calls>(tried: &Tried) {
     every_set(&[12, 15, 16, 30, 31, 34], |wrong| {
         let session = unless::<S>(wrong(30), tried.by(if wrong(31) { 0 } else { 3 }));
         let q = if wrong(15) { 4_194_305 } else { 4 + u32::from(wrong(34)) };
-        session.place(cut(&mut tried.map.clone(), wrong(12)), if wrong(16) { 4 } else { 0 }, 0, q).0
+        session.place(cut(&mut tried.map.clone(), wrong(12)), &[], if wrong(16) { 4 } else { 0 }, 0, q).0
     });
 }
 
@@ -490,14 +457,14 @@ fn run_refusals<S: Calls>(tried: &Tried) {
             (true, true) => (0, 4),
         };
         let count = if wrong(17) { 2_048 } else { count };
-        session.run(cut(&mut tried.map.clone(), wrong(12)), direction, count).0
+        session.run(cut(&mut tried.map.clone(), wrong(12)), &[], direction, count).0
     });
 }
 
 fn read_refusals<S: Calls>(tried: &Tried) {
-    for which in 0..3 {
+    for (which, other) in (0..3).flat_map(|which| (2..=6).map(move |other| (which, other))) {
         every_set(&[12, 30, 31, 36, 37], |wrong| {
-            let engine = if wrong(36) { 2 } else { 1 };
+            let engine = if wrong(36) { other } else { 1 };
             let session = unless::<S>(wrong(30), tried.by(if wrong(31) { 0 } else { engine }));
             let mut map = if wrong(37) { vec![1; 32] } else { tried.map.clone() };
             let [one, two, three] = [0, 1, 2].map(|slice| wrong(12) && which == slice);

@@ -5,12 +5,12 @@ const README: &str = include_str!("../../../README.md");
 #[test]
 #[rustfmt::skip]
 fn in_rust() {
-let (mut sheet, mut map, mut scratch) = ([0; 16], [0; 32], [0; 16]);
+let (mut sheet, mut map, mut values, mut scratch) = ([0; 16], [0; 32], [0; 16], [0; 16]);
 let opened = abi::session::Session::fresh().open(&mut sheet, 4, 4);
 let painted = opened.session.paint(&mut sheet, 3, 0, 1, 1);
-let built = painted.session.build(&sheet, &mut map, &mut scratch, 1);
-assert_eq!(built.session.place(&map, 0, 0, 8).answer, 0);
-assert_eq!(built.session.place(&map, 0, 0, 9).answer, 34);
+let built = painted.session.build(&sheet, &mut map, &mut values, &mut scratch, 1);
+assert_eq!(built.session.place(&map, &values, 0, 0, 8).answer, 0);
+assert_eq!(built.session.place(&map, &values, 0, 0, 9).answer, 34);
 }
 
 /// The lines of the README's blocks of code.

@@ -15,19 +15,21 @@ fn lengths(w: usize, h: usize) -> Vec<usize> {
     lengths
 }
 
-/// Makes a call of the library with scratch of a length, and of the model: answer, session, and what sheet, map and scratch hold.
+/// Makes a call of the library with scratch of a length, and of the model: answer, session, and what sheet, maps and scratch hold.
 fn compare(board: &Board, call: Call, length: usize, random: &mut Random) {
     let (width, height) = board.sides();
     let session = Fields { opened: true, width, height, ..Fields::FRESH };
     let mut any = |length: usize| (0..length).map(|_| random.next() as i16).collect();
     let (map, scratch) = (any(2 * board.sheet.len()), any(length));
-    let mut slices = Slices { sheet: board.sheet.clone(), map, scratch, marks: vec![], out: vec![] };
+    let values = (0..board.sheet.len()).map(|_| random.next() as u16).collect();
+    let mut slices = Slices { sheet: board.sheet.clone(), map, values, scratch, marks: vec![], out: vec![] };
     let mut expected = slices.clone();
     let (answer, after) = call.make_within(Library::from(session), &mut slices, random, &board);
     let about = || format!("{call:?} with scratch of {length}: {board:?}");
     assert_eq!((answer, after.into()), call.make(session, expected.lend()), "{}", about());
     assert!(slices.sheet == expected.sheet, "sheet: {}", about());
     assert!(slices.map == expected.map, "map: {}", about());
+    assert!(slices.values == expected.values, "values: {}", about());
     assert!(slices.scratch == expected.scratch, "scratch: {}", about());
 }
 
@@ -35,8 +37,8 @@ fn compare(board: &Board, call: Call, length: usize, random: &mut Random) {
 fn check(w: usize, h: usize, random: &mut Random) {
     let board = boards::any(w, h, random);
     let q = random.below(9) as u32;
-    let builds = [1, 2, 3].map(|engine| Call::Build { engine });
-    for call in builds.into_iter().chain([Call::Expand { q }, Call::Shrink { q }]) {
+    let builds = (1..=6).map(|engine| Call::Build { engine });
+    for call in builds.chain([Call::Expand { q }, Call::Shrink { q }]) {
         for length in lengths(w, h) {
             compare(&board, call, length, random);
         }

@@ -6,7 +6,6 @@ use model::calls::Calls;
 use model::nearest;
 use model::random::Random;
 use model::session::Fields;
-use model::skeleton::size;
 use soak::calls::Call;
 use soak::library::Library;
 use soak::list::{Answers, Check};
@@ -45,13 +44,14 @@ fn answers<const N: usize>(list: &mut List, calls: [(Call, u32); N], random: &mu
     }
 }
 
-/// The largest q that passes for a pixel of this size, none if none does.
+/// The largest q that passes for a pixel of this size, which on the values is their square; none if none does.
 fn most(engine: u16, size: u64) -> Option<u32> {
     let below = size.checked_sub(1)?;
     Some(match engine {
-        1 => below,
+        1 | 5 => below,
         2 => (144 * size - 1) / 169,
-        _ => below / 2,
+        3 | 4 => below / 2,
+        _ => below / 10,
     } as u32)
 }
 
@@ -77,17 +77,49 @@ fn sides() {
         slices.sheet.resize(length, 1);
         assert_eq!(list.lend(call, slices, &mut random).0, 12, "{length}");
     }
-    // the map is not looked at
+    // the maps are not looked at
     let mut slices = list.slices(call, &mut random);
     slices.map.clear();
+    slices.values.clear();
     assert_eq!(list.lend(call, slices, &mut random).0, 0);
+}
+
+/// An opening that is refused leaves a list its maps. One that is done comes with others, and if one kind has a wrong length the calls over the
+/// other kind go on.
+#[test]
+fn openings() {
+    let mut random = Random::new(118);
+    let mut list = built(&boards::document_01(), 6, &mut random);
+    let (open, place) = (Call::Open { w: 4, h: 4 }, |q| Call::Place { x: 0, y: 0, q });
+    let builds = |engines: [u16; 3], answer| engines.map(|engine| (Call::Build { engine }, answer));
+    let mut slices = list.slices(open, &mut random);
+    slices.sheet.push(1);
+    assert_eq!(list.lend(open, slices, &mut random).0, 12);
+    answers(&mut list, [(place(7), 34), (place(6), 0)], &mut random);
+    assert_eq!(list.call(open, &mut random), 0);
+    answers(&mut list, [(place(6), 31), (Call::Build { engine: 6 }, 0), (place(4_194_304), 0)], &mut random);
+    let mut slices = list.slices(open, &mut random);
+    slices.values.pop();
+    assert_eq!(list.lend(open, slices, &mut random).0, 0);
+    answers(&mut list, builds([4, 5, 6], 12), &mut random);
+    answers(&mut list, [(Call::Build { engine: 7 }, 14), (place(0), 31)], &mut random);
+    answers(&mut list, builds([1, 2, 3], 0), &mut random);
+    answers(&mut list, [(place(9), 0), (Call::Build { engine: 4 }, 12), (Call::Run { direction: 0, count: 3 }, 0)], &mut random);
+    let mut slices = list.slices(open, &mut random);
+    slices.map.push(0);
+    assert_eq!(list.lend(open, slices, &mut random).0, 0);
+    answers(&mut list, builds([1, 3, 7], 12), &mut random);
+    answers(&mut list, [(place(0), 12), (Call::Run { direction: 0, count: 1 }, 12)], &mut random);
+    answers(&mut list, builds([4, 5, 6], 0), &mut random);
+    answers(&mut list, [(place(9), 0), (Call::Build { engine: 2 }, 12), (Call::Run { direction: 0, count: 3 }, 0)], &mut random);
+    answers(&mut list, [(Call::Expand { q: 1 }, 12), (Call::Skeleton, 12), (Call::Lift, 0)], &mut random);
 }
 
 /// The most steps of a run, there and back, and one more; and none.
 #[test]
 fn counts() {
     let mut random = Random::new(106);
-    for engine in 1..=3 {
+    for engine in 1..=6 {
         for (w, h, forth, back, end) in [(2_048, 1, 0, 4, (2_047, 0)), (1, 2_048, 2, 6, (0, 2_047))] {
             let mut list = built(&Board::bare(w, h), engine, &mut random);
             let run = |direction, count| Call::Run { direction, count };
@@ -105,7 +137,7 @@ fn counts() {
 fn largest_q() {
     let mut random = Random::new(107);
     let [limit, over] = [4_194_304, 4_194_305];
-    for engine in 1..=3 {
+    for engine in 1..=6 {
         let mut list = built(&Board::bare(3, 2), engine, &mut random);
         let place = |q| Call::Place { x: 2, y: 1, q };
         answers(&mut list, [(place(limit), 0), (place(over), 15), (place(u32::MAX), 15)], &mut random);
@@ -187,29 +219,34 @@ fn claims_of_the_model() {
     hold_to_claims::<Fields>(116, 5_000, 800);
 }
 
+/// Places the cutter at a pixel of a sheet with copper, with the largest q that passes and with the next.
+fn around_gate(list: &mut List, (x, y): (u16, u16), random: &mut Random) {
+    let size = list.size(usize::from(y) * usize::from(list.session().width) + usize::from(x)).expect("copper");
+    let most = most(list.session().engine, size);
+    if let Some(q) = most {
+        assert_eq!(list.call(Call::Place { x, y, q }, random), 0);
+    }
+    assert_eq!(list.call(Call::Place { x, y, q: most.map_or(0, |q| q + 1) }, random), 34);
+}
+
 /// At every pixel of the arrow heads the largest q that passes and the next, by all engines, and runs between.
 #[test]
 fn arrow_heads_everywhere() {
     let mut random = Random::new(112);
     for board in boards::arrow_heads() {
         let (w, h) = board.sides();
-        for engine in 1..=3 {
+        for engine in 1..=6 {
             let mut list = built(&board, engine, &mut random);
             for y in 0..h {
                 for x in 0..w {
-                    let at = 2 * (usize::from(y) * usize::from(w) + usize::from(x));
-                    let most = most(engine, size([list.map[at], list.map[at + 1]]));
-                    if let Some(q) = most {
-                        assert_eq!(list.call(Call::Place { x, y, q }, &mut random), 0);
-                    }
-                    assert_eq!(list.call(Call::Place { x, y, q: most.map_or(0, |q| q + 1) }, &mut random), 34);
+                    around_gate(&mut list, (x, y), &mut random);
                     list.call(Call::Run { direction: random.below(8) as u16, count: 1 + random.below(9) as u16 }, &mut random);
                 }
             }
         }
     }
     let mut list = built(&boards::arrow_head(), 2, &mut random);
-    assert_eq!(size([list.map[0], list.map[1]]), 170);
+    assert_eq!(list.size(0), Some(170));
     let [passes, fails] = [144, 145].map(|q| Call::Place { x: 0, y: 0, q });
     answers(&mut list, [(fails, 34), (passes, 0)], &mut random);
 }
@@ -229,10 +266,7 @@ fn claims_where_quick_maps_miss() {
             let mut list = checked(Check::Board, &board, &mut random);
             assert_eq!(list.call(Call::Build { engine }, &mut random), 0);
             for (at, e) in nearest::all(&list.sheet, board.w, board.h).into_iter().enumerate() {
-                let found = size([list.map[2 * at], list.map[2 * at + 1]]);
-                if e.is_none_or(|e| e == found) {
-                    continue;
-                }
+                let Some(found) = list.size(at).filter(|&found| Some(found) != e) else { continue };
                 missed[usize::from(engine) - 2] += 1;
                 let (x, y) = ((at % board.w) as u16, (at / board.w) as u16);
                 for gate in 1..=3 {
@@ -246,6 +280,24 @@ fn claims_where_quick_maps_miss() {
     assert!(missed[0] > 40 && missed[1] > 800, "{missed:?}");
 }
 
+/// The claims where the drafts are farthest from the true distances, along the rows and columns and along the diagonals, and between: from
+/// one copper pixel at any place, and from a few. At every pixel the gate's q and the next, without a look at the model.
+#[test]
+fn claims_on_drafts() {
+    let mut random = Random::new(117);
+    let one = (0..9 * 7).map(|at| Board::with(9, 7, &[(at % 9, at / 9)]));
+    let few: Vec<Board> = (0..300).map(|_| boards::sprinkled(random.between(1, 20), random.between(1, 20), 3, &mut random)).collect();
+    for board in one.chain(few) {
+        for engine in 4..=6 {
+            let mut list = checked(Check::Board, &board, &mut random);
+            assert_eq!(list.call(Call::Build { engine }, &mut random), 0);
+            for at in 0..board.sheet.len() {
+                around_gate(&mut list, ((at % board.w) as u16, (at / board.w) as u16), &mut random);
+            }
+        }
+    }
+}
+
 /// Sheets of one row and of one column.
 #[test]
 fn lines() {
@@ -256,7 +308,7 @@ fn lines() {
             for copper in 0..3 {
                 let board = boards::sprinkled(w.into(), h.into(), copper, &mut random);
                 let mut list = painted(&board, &mut random);
-                for engine in 1..=3 {
+                for engine in 1..=6 {
                     assert_eq!(list.call(Call::Build { engine }, &mut random), 0);
                     for _ in 0..6 {
                         let (x, y) = pixel(random.below(n.into()) as u16);
@@ -276,14 +328,14 @@ fn lines() {
     }
 }
 
-/// The largest sheet. From one corner to the other it is 2 × 2,047², which on the map of 4SED is too little for the largest q.
+/// The largest sheet. From one corner to the other it is 2 × 2,047², which by 4SED and by the chessboard is too little for the largest q.
 #[test]
 fn largest() {
     let mut random = Random::new(114);
     let mut list = painted(&Board::with(2_048, 2_048, &[(0, 0)]), &mut random);
     let corner = Call::Place { x: 2_047, y: 2_047, q: 4_194_304 };
     let lowered = Call::Place { x: 2_047, y: 2_047, q: 4_000_000 };
-    for (engine, answer) in [(1, 0), (2, 0), (3, 34)] {
+    for (engine, answer) in [(1, 0), (2, 0), (3, 34), (4, 0), (6, 0), (5, 34)] {
         answers(&mut list, [(Call::Build { engine }, 0), (corner, answer), (lowered, 0)], &mut random);
         let run = |count| Call::Run { direction: 5, count };
         answers(&mut list, [(run(2_048), 17), (run(2_047), 34), (run(1), 0)], &mut random);

@@ -7,12 +7,12 @@ use std::ffi::{OsStr, OsString};
 /// What `-h` and `--help` write.
 pub const USE: &str = "\
 use: bench [ROUNDS [CALL]]      times the calls of the library, or one alone, beside plain Rust
-     bench --peers [ROUNDS]     times the exact map beside other libraries
-     bench --memory [ROUNDS]    times nothing but writing the lent slices once
+     bench --peers [ROUNDS]     times the exact map and the chamfer maps beside other libraries
+     bench --memory [ROUNDS]    times nothing but going once through the slices that are lent
      bench --stack              measures how much of the stack each call takes
      bench -h | --help          these lines
 ROUNDS is how often all boards are gone through, from 1; 10 if it is not given.
-CALL is exact, 8SED, 4SED, expand, shrink, skeleton, rebuild or run.
+CALL is exact, 8SED, 4SED, city-block, chessboard, chamfer, expand, shrink, skeleton, rebuild or run.
 ";
 
 /// What is to be timed, in how many rounds, from 1, or to be measured.
@@ -20,9 +20,9 @@ CALL is exact, 8SED, 4SED, expand, shrink, skeleton, rebuild or run.
 pub enum Command {
     /// The calls beside plain Rust, or one alone.
     Table { rounds: usize, alone: Option<&'static str> },
-    /// The exact map beside other libraries.
+    /// The exact map and the chamfer maps beside other libraries.
     Peers { rounds: usize },
-    /// The writing of the lent slices.
+    /// A pass through the lent slices.
     Memory { rounds: usize },
     /// The stack that each call takes.
     Stack,
@@ -52,9 +52,16 @@ pub fn parse(words: &[OsString]) -> Result<Command, Stop> {
 
 /// The name of a call that is timed.
 fn known(word: &OsStr) -> Result<&'static str, Stop> {
-    let names = WHATS.map(|what| what.name);
-    let name = names.into_iter().find(|name| word == *name);
-    name.ok_or_else(|| Stop::Refused(format!("CALL is one of {}, not `{}`", names.join(", "), word.display())))
+    let name = WHATS.iter().map(|what| what.name).find(|name| word == one_word(name).as_str());
+    name.ok_or_else(|| {
+        let names = WHATS.map(|what| one_word(what.name)).join(", ");
+        Stop::Refused(format!("CALL is one of {names}, not `{}`", word.display()))
+    })
+}
+
+/// A call's name as one word of the command line.
+fn one_word(name: &str) -> String {
+    name.replace(' ', "-")
 }
 
 #[cfg(test)]
@@ -71,8 +78,8 @@ mod tests {
         assert_eq!(taken(""), Command::Table { rounds: 10, alone: None });
         assert_eq!(taken("12"), Command::Table { rounds: 12, alone: None });
         for call in WHATS.map(|what| what.name) {
-            assert_eq!(taken(&format!("1 {call}")), Command::Table { rounds: 1, alone: Some(call) });
-            assert!(USE.contains(call));
+            assert_eq!(taken(&format!("1 {}", one_word(call))), Command::Table { rounds: 1, alone: Some(call) });
+            assert!(USE.contains(&one_word(call)));
         }
     }
 

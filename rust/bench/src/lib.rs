@@ -3,6 +3,7 @@
 pub mod fused;
 pub mod plain;
 pub mod plain_calls;
+pub mod plain_chamfer;
 pub mod plain_exact;
 pub mod plain_resize;
 pub mod plain_skeleton;
@@ -11,6 +12,7 @@ pub mod plain_skeleton;
 mod tests {
     use super::*;
     use model::boards::{self, Board};
+    use model::chamfer::Weights;
     use model::random::Random;
     use model::session::{scratch_need, Fields};
     use soak::calls::{Call, Slices};
@@ -25,6 +27,12 @@ mod tests {
         (0..length).map(|_| random.next() as i16).collect()
     }
 
+    /// Values that hold anything: mostly small ones, and some unlabelled.
+    fn any_values(length: usize, random: &mut Random) -> Vec<u16> {
+        let mut value = || [random.below(12) as u16, random.next() as u16, u16::MAX][random.below(6).saturating_sub(3) as usize];
+        (0..length).map(|_| value()).collect()
+    }
+
     fn check_scans(board: &Board, random: &mut Random) {
         for corners in [false, true] {
             let expected = model::scans::scan(&board.sheet, board.w, board.h, corners).concat();
@@ -33,6 +41,18 @@ mod tests {
                 scan(&board.sheet, &mut map, board.w, board.h, corners);
                 assert!(map == expected, "scan {which}, corners {corners}: {board:?}");
             }
+        }
+    }
+
+    /// The maps by the weights of the three engines and by any others that are allowed.
+    fn check_chamfer(board: &Board, random: &mut Random) {
+        let b = random.between(1, 32) as u16;
+        let a = b - random.below(u64::from(b) / 2 + 1) as u16;
+        for [a, b] in plain_chamfer::WEIGHTS.into_iter().chain([[a, b]]) {
+            let expected = model::chamfer::sooner(&board.sheet, board.w, board.h, Weights { a, b });
+            let mut values = any_values(board.sheet.len(), random);
+            plain_chamfer::chamfer(&board.sheet, &mut values, board.w, board.h, [a, b]);
+            assert!(values == expected, "weights {a}, {b}: {board:?}");
         }
     }
 
@@ -121,6 +141,11 @@ mod tests {
     }
 
     #[test]
+    fn chamfer_as_the_model() {
+        on_boards(26, check_chamfer);
+    }
+
+    #[test]
     fn resize_as_the_model() {
         on_boards(23, check_resize);
     }
@@ -134,13 +159,14 @@ mod tests {
     fn any_slices(board: &Board, random: &mut Random) -> Slices {
         let pixels = board.sheet.len();
         let scratch = [scratch_need(board.w), pixels][random.below(2) as usize];
-        let [sheet, numbers, scratch, marks, out] = [pixels, pixels, scratch, pixels, pixels].map(|right| {
+        let [sheet, pairs, values, scratch, marks, out] = [pixels, pixels, pixels, scratch, pixels, pixels].map(|right| {
             let wrong = right + 1 - 2 * random.below(2) as usize;
             [right, wrong][usize::from(random.below(9) == 0)]
         });
         let mut slices = Slices {
             sheet: board.sheet.clone(),
-            map: anything(2 * numbers, random),
+            map: anything(2 * pairs, random),
+            values: any_values(values, random),
             scratch: vec![7; scratch],
             marks: vec![1; marks],
             out: vec![7; out],
@@ -156,7 +182,7 @@ mod tests {
         for _ in 0..times {
             let fields = any_session(board, random);
             let mut slices = any_slices(board, random);
-            let engine = [fields.engine, random.below(5) as u16][random.below(2) as usize];
+            let engine = [fields.engine, random.below(8) as u16][random.below(2) as usize];
             let q = [random.below(30), 4_194_304 + random.below(2)][random.below(2) as usize] as u32;
             let run = Call::Run { direction: random.below(9) as u16, count: random.below(4) as u16 };
             for call in [run, Call::Build { engine }, Call::Skeleton, Call::Rebuild, Call::Expand { q }, Call::Shrink { q }] {
@@ -170,15 +196,15 @@ mod tests {
 
     /// A call in plain Rust.
     fn plain_call(call: Call, fields: Fields, slices: &mut Slices) -> (u32, Fields) {
-        let Slices { sheet, map, scratch, marks, out } = slices;
+        let Slices { sheet, map, values, scratch, marks, out } = slices;
         let session = Library::from(fields).0;
         let reply = match call {
-            Call::Build { engine } => plain_calls::build(session, sheet, map, scratch, engine, &plain_calls::FUSED),
+            Call::Build { engine } => plain_calls::build(session, sheet, map, values, scratch, engine, &plain_calls::FUSED),
             Call::Expand { q } => plain_calls::expand(session, sheet, map, scratch, q),
             Call::Shrink { q } => plain_calls::shrink(session, sheet, map, scratch, q),
             Call::Skeleton => plain_calls::skeleton(session, map, out),
             Call::Rebuild => plain_calls::rebuild(session, map, marks, out),
-            Call::Run { direction, count } => plain_calls::run(session, map, direction, count),
+            Call::Run { direction, count } => plain_calls::run(session, map, values, direction, count),
             _ => panic!("{call:?} is not timed"),
         };
         (reply.answer, Library(reply.session).into())
@@ -187,7 +213,7 @@ mod tests {
     /// A session with the board's sheet open and the cutter down more often than not, and now and then a field that may not be so.
     fn any_session(board: &Board, random: &mut Random) -> Fields {
         let (width, height) = board.sides();
-        let engine = random.below(5) as u16;
+        let engine = random.below(8) as u16;
         let mut fields = Fields { opened: true, width, height, current: engine != 0, engine, ..Fields::FRESH };
         if engine != 0 && random.below(3) > 0 {
             let (x, y) = (random.below(width.into()) as u16, random.below(height.into()) as u16);

@@ -24,9 +24,18 @@ struct Slices<'a> {
     session: Session,
     sheet: &'a mut [u8],
     map: &'a mut [i16],
+    values: &'a mut [u16],
     scratch: &'a mut [i16],
     marks: &'a mut [u8],
     out: &'a mut [u8],
+}
+
+impl Slices<'_> {
+    /// Whether both hold the same, but for scratch and marks.
+    fn same(&self, other: &Slices) -> bool {
+        let (maps, others) = ((&*self.map, &*self.values), (&*other.map, &*other.values));
+        self.session == other.session && self.sheet == other.sheet && maps == others && self.out == other.out
+    }
 }
 
 type Call = fn(&mut Slices) -> Reply;
@@ -47,9 +56,18 @@ struct What {
 /// By how much expand and shrink are timed.
 const Q: u32 = 25;
 
+/// A build in plain Rust, and the tuned one.
+fn plain_build(on: &mut Slices, engine: u16) -> Reply {
+    plain_calls::build(on.session, on.sheet, on.map, on.values, on.scratch, engine, &PLAIN)
+}
+
+fn fused_build(on: &mut Slices, engine: u16) -> Reply {
+    plain_calls::build(on.session, on.sheet, on.map, on.values, on.scratch, engine, &FUSED)
+}
+
 /// The exact map of the sheet, which is then current.
 fn map_of(on: &mut Slices) {
-    on.session = plain_calls::build(on.session, on.sheet, on.map, on.scratch, 1, &PLAIN).session;
+    on.session = plain_build(on, 1).session;
 }
 
 /// The exact map of the sheet, and its skeleton as the marks.
@@ -70,16 +88,16 @@ fn bare_row(on: &mut Slices) {
 /// The same, with the cutter down where the row starts.
 fn lowered(on: &mut Slices) {
     bare_row(on);
-    on.session = on.session.place(on.map, 0, 0, 0).session;
+    on.session = on.session.place(on.map, on.values, 0, 0, 0).session;
 }
 
 /// Runs along that row, each from its start.
-fn runs(on: &mut Slices, run: fn(Session, &[i16], u16, u16) -> Reply) -> Reply {
+fn runs(on: &mut Slices, run: fn(Session, &[i16], &[u16], u16, u16) -> Reply) -> Reply {
     let count = on.session.width - 1;
     for _ in 1..RUNS {
-        std::hint::black_box(run(std::hint::black_box(on.session), on.map, 0, count));
+        std::hint::black_box(run(std::hint::black_box(on.session), on.map, on.values, 0, count));
     }
-    run(on.session, on.map, 0, count)
+    run(on.session, on.map, on.values, 0, count)
 }
 
 /// A call that looks at every pixel.
@@ -87,33 +105,60 @@ fn whole(board: &Board) -> usize {
     board.sheet.len()
 }
 
-const WHATS: [What; 8] = [
+const WHATS: [What; 11] = [
     What {
         name: "exact",
         lent: [5, 8],
         pixels: whole,
         ready: |_| {},
-        library: |on| on.session.build(on.sheet, on.map, on.scratch, 1),
-        plain: |on| plain_calls::build(on.session, on.sheet, on.map, on.scratch, 1, &PLAIN),
-        fused: Some(|on| plain_calls::build(on.session, on.sheet, on.map, on.scratch, 1, &FUSED)),
+        library: |on| on.session.build(on.sheet, on.map, on.values, on.scratch, 1),
+        plain: |on| plain_build(on, 1),
+        fused: Some(|on| fused_build(on, 1)),
     },
     What {
         name: "8SED",
         lent: [5, 0],
         pixels: whole,
         ready: |_| {},
-        library: |on| on.session.build(on.sheet, on.map, on.scratch, 2),
-        plain: |on| plain_calls::build(on.session, on.sheet, on.map, on.scratch, 2, &PLAIN),
-        fused: Some(|on| plain_calls::build(on.session, on.sheet, on.map, on.scratch, 2, &FUSED)),
+        library: |on| on.session.build(on.sheet, on.map, on.values, on.scratch, 2),
+        plain: |on| plain_build(on, 2),
+        fused: Some(|on| fused_build(on, 2)),
     },
     What {
         name: "4SED",
         lent: [5, 0],
         pixels: whole,
         ready: |_| {},
-        library: |on| on.session.build(on.sheet, on.map, on.scratch, 3),
-        plain: |on| plain_calls::build(on.session, on.sheet, on.map, on.scratch, 3, &PLAIN),
-        fused: Some(|on| plain_calls::build(on.session, on.sheet, on.map, on.scratch, 3, &FUSED)),
+        library: |on| on.session.build(on.sheet, on.map, on.values, on.scratch, 3),
+        plain: |on| plain_build(on, 3),
+        fused: Some(|on| fused_build(on, 3)),
+    },
+    What {
+        name: "city block",
+        lent: [3, 0],
+        pixels: whole,
+        ready: |_| {},
+        library: |on| on.session.build(on.sheet, on.map, on.values, on.scratch, 4),
+        plain: |on| plain_build(on, 4),
+        fused: None,
+    },
+    What {
+        name: "chessboard",
+        lent: [3, 0],
+        pixels: whole,
+        ready: |_| {},
+        library: |on| on.session.build(on.sheet, on.map, on.values, on.scratch, 5),
+        plain: |on| plain_build(on, 5),
+        fused: None,
+    },
+    What {
+        name: "chamfer",
+        lent: [3, 0],
+        pixels: whole,
+        ready: |_| {},
+        library: |on| on.session.build(on.sheet, on.map, on.values, on.scratch, 6),
+        plain: |on| plain_build(on, 6),
+        fused: None,
     },
     What {
         name: "expand",
@@ -166,6 +211,7 @@ const WHATS: [What; 8] = [
 struct Memory {
     sheet: Vec<u8>,
     map: Vec<i16>,
+    values: Vec<u16>,
     scratch: Vec<i16>,
     marks: Vec<u8>,
     out: Vec<u8>,
@@ -174,8 +220,8 @@ struct Memory {
 impl Memory {
     fn new(side: usize) -> Self {
         let bytes = vec![0; side * side];
-        let (map, scratch) = (vec![0; 2 * side * side], vec![0; scratch_need(side)]);
-        Memory { sheet: bytes.clone(), map, scratch, marks: bytes.clone(), out: bytes }
+        let (map, values, scratch) = (vec![0; 2 * side * side], vec![0; side * side], vec![0; scratch_need(side)]);
+        Memory { sheet: bytes.clone(), map, values, scratch, marks: bytes.clone(), out: bytes }
     }
 
     /// The slices for a board, with its sheet, and no more scratch than is needed. The others are as they were.
@@ -187,6 +233,7 @@ impl Memory {
             session: Session { opened: true, width, height, ..Session::fresh() },
             sheet: &mut self.sheet[..w * h],
             map: &mut self.map[..2 * w * h],
+            values: &mut self.values[..w * h],
             scratch: &mut self.scratch[..scratch_need(w)],
             marks: &mut self.marks[..w * h],
             out: &mut self.out[..w * h],
@@ -226,9 +273,9 @@ impl Line {
         Line { what: what.name, lent: what.lent, pixels: (what.pixels)(&board), name, board, ready: what.ready, calls, best }
     }
 
-    /// Runs each contender once, another first in each turn. The call must be done, and they must write the same.
+    /// Runs each contender once, another first in each turn, with a memory for each. The call must be done, and they must write the same.
     fn run(&mut self, turn: usize, memories: &mut [Memory]) {
-        let mut slices: Vec<Slices> = memories.iter_mut().take(self.calls.len()).map(|memory| memory.lend(&self.board)).collect();
+        let mut slices: Vec<Slices> = memories.iter_mut().map(|memory| memory.lend(&self.board)).collect();
         slices.iter_mut().for_each(self.ready);
         for (place, on) in slices.iter_mut().enumerate() {
             let which = (turn + place) % self.calls.len();
@@ -238,10 +285,8 @@ impl Line {
             assert_eq!(reply.answer, 0, "{} on {} {}", self.what, self.name, self.board.w);
             on.session = reply.session;
         }
-        for on in &slices[1..] {
-            let same = on.session == slices[0].session && on.sheet == slices[0].sheet && on.map == slices[0].map && on.out == slices[0].out;
-            assert!(same, "{} on {} {}: the contenders wrote different things", self.what, self.name, self.board.w);
-        }
+        let same = slices.iter().all(|on| on.same(&slices[0]));
+        assert!(same, "{} on {} {}: the contenders wrote different things", self.what, self.name, self.board.w);
     }
 
     /// How many bytes the call is lent.
@@ -256,29 +301,49 @@ impl Line {
     }
 }
 
-/// The times of what any expand and shrink must do at least, since both leave the sheet, the map and scratch written: to write these slices
-/// once.
-fn write_once(rounds: usize) -> String {
-    let mut text = "writing sheet and map, 5 bytes a pixel, and 4 × W numbers of scratch once: ".to_string();
-    text += &format!("ns a pixel, the shortest of {rounds} runs\n\n");
-    let mut memory = Memory::new(2_048);
-    let mut first = None;
-    for side in SIDES {
-        let board = boards::full(side, side);
-        let mut best = Duration::MAX;
-        for byte in 0..rounds {
-            let on = memory.lend(&board);
-            let start = Instant::now();
-            on.sheet.fill(byte as u8);
-            on.map.fill(byte as i16);
-            on.scratch.fill(byte as i16);
-            best = best.min(start.elapsed());
-            std::hint::black_box(on.map);
+/// What some calls must do at least with the slices that they are lent, in words and as work, which is told a number to write.
+type Least = (&'static str, fn(&mut Slices, u8));
+
+/// Expand and shrink leave the sheet, the map and scratch written. A build by engines 4 to 6 looks at every byte and writes every value.
+const LEAST: [Least; 2] = [
+    ("writing sheet and map, 5 bytes a pixel, and 4 × W numbers of scratch once", |on, number| {
+        on.sheet.fill(number);
+        on.map.fill(number.into());
+        on.scratch.fill(number.into());
+    }),
+    ("reading the sheet and writing the values once, 3 bytes a pixel", |on, number| {
+        for (value, &byte) in on.values.iter_mut().zip(&*on.sheet) {
+            *value = u16::from(byte ^ number);
         }
-        let time = best.as_nanos() as f64 / (side * side) as f64;
-        text += &format!("{side:4}  {time:.2}  to 512: {:.2}\n", time / *first.get_or_insert(time));
+    }),
+];
+
+/// The times of doing no more than that.
+fn least_work(rounds: usize) -> String {
+    let mut text = format!("ns a pixel, the shortest of {rounds} runs\n");
+    let mut memory = Memory::new(2_048);
+    for (words, work) in LEAST {
+        text += &format!("\n{words}\n");
+        let mut first = None;
+        for side in SIDES {
+            let time = shortest(rounds, work, &mut memory, side);
+            text += &format!("{side:4}  {time:.2}  to 512: {:.2}\n", time / *first.get_or_insert(time));
+        }
     }
     text
+}
+
+/// The shortest time of some work on a square sheet, in nanoseconds a pixel.
+fn shortest(rounds: usize, work: fn(&mut Slices, u8), memory: &mut Memory, side: usize) -> f64 {
+    let board = boards::full(side, side);
+    let mut best = Duration::MAX;
+    for round in 0..rounds {
+        let mut on = memory.lend(&board);
+        let start = Instant::now();
+        std::hint::black_box(work)(&mut on, round as u8);
+        best = best.min(start.elapsed());
+    }
+    best.as_nanos() as f64 / (side * side) as f64
 }
 
 /// A number of the table, or a dash.
@@ -294,12 +359,14 @@ fn timed(rounds: usize, alone: Option<&str>) -> Vec<Line> {
             lines.extend(SIDES.map(|side| Line::new(what, name, side)));
         }
     }
-    let mut memories = [(); 3].map(|()| Memory::new(2_048));
+    // memories for two contenders and for three: those that are used together hold the same before each call
+    let mut memories = [2, 3].map(|contenders| Vec::from_iter((0..contenders).map(|_| Memory::new(2_048))));
     for round in 0..rounds {
         for line in &mut lines {
+            let memories = &mut memories[line.calls.len() - 2];
             // the smaller boards several times, since they take less time
             for turn in 0..2_048 / line.board.w {
-                line.run(round + turn, &mut memories);
+                line.run(round + turn, memories);
             }
         }
     }
@@ -318,7 +385,7 @@ fn time(command: Command) -> Result<String, Stop> {
             let boards = boards::BENCHMARK.iter().flat_map(|&name| SIDES.map(|side| (name, boards::benchmark(name, side))));
             peers::table(rounds, boards).map_err(|error| Stop::Failed(format!("the other libraries cannot be timed: {error}")))
         }
-        Command::Memory { rounds } => Ok(write_once(rounds)),
+        Command::Memory { rounds } => Ok(least_work(rounds)),
         Command::Stack => stack::table().map_err(|error| Stop::Failed(format!("the stack cannot be measured: {error}"))),
     }
 }
@@ -330,14 +397,14 @@ fn table(rounds: usize, lines: &[Line]) -> String {
     text += "exact works a column's cost out when it is asked for; the scans take the row before and the sweep to the right in one pass,\n";
     text += "test only a row's first pixel for a label, and start a sweep at the first labelled pixel; a run's pixels are those it comes to\n\n";
     text += &format!(
-        "{:8}  {:11}  {:>4}  {:>7}  {:>5}  {:>5}  {:>5}  {:>5}  {:>7}  library 2,048 / 512\n",
+        "{:10}  {:11}  {:>4}  {:>7}  {:>5}  {:>5}  {:>5}  {:>5}  {:>7}  library 2,048 / 512\n",
         "call", "board", "side", "library", "plain", "ratio", "fused", "ratio", "lent"
     );
     for sides in lines.chunks(SIDES.len()) {
         for line in sides {
             let [library, plain, fused] = [0, 1, 2].map(|which| line.nanoseconds(which));
             let over = |other: Option<f64>| Some(library? / other?);
-            text += &format!("{:8}  {:11}  {:4}  {:>7}", line.what, line.name, line.board.w, cell(library));
+            text += &format!("{:10}  {:11}  {:4}  {:>7}", line.what, line.name, line.board.w, cell(library));
             for number in [plain, over(plain), fused, over(fused)] {
                 text += &format!("  {:>5}", cell(number));
             }

@@ -1,9 +1,9 @@
 //! The calls of the session in plain safe Rust: what the library tests before its work, in the library's order, and then the work.
 
-use crate::{fused, plain, plain_exact, plain_resize, plain_skeleton};
+use crate::{fused, plain, plain_chamfer, plain_exact, plain_resize, plain_skeleton};
 use abi::session::{Closest, Reply, Session};
 
-/// The functions that write the maps.
+/// The functions that write the maps of pairs.
 pub struct Engines {
     exact: fn(&[u8], &mut [i16], &mut [i16], usize, usize),
     scan: fn(&[u8], &mut [i16], usize, usize, bool),
@@ -31,7 +31,7 @@ fn done(session: Session) -> Reply {
 /// Whether some call could hand the session back, and a sheet is open.
 fn is_active(s: &Session) -> bool {
     let side = |side: u16| (1..=2_048).contains(&side);
-    let map = if s.current { (1..=3).contains(&s.engine) } else { s.engine == 0 };
+    let map = if s.current { (1..=6).contains(&s.engine) } else { s.engine == 0 };
     let down = s.current && s.x < s.width && s.y < s.height && s.q <= 4_194_304;
     let cutter = if s.lowered { down } else { (s.x, s.y, s.q) == (0, 0, 0) };
     let closest = if s.closest.met { s.current } else { s.closest.size == 0 };
@@ -48,19 +48,35 @@ fn stale(s: Session) -> Session {
     Session { current: false, engine: 0, lowered: false, x: 0, y: 0, q: 0, closest: Closest::NONE, ..s }
 }
 
+/// Whether an engine writes values, one number a pixel, and not pairs.
+fn by_values(engine: u16) -> bool {
+    (4..=6).contains(&engine)
+}
+
+/// Whether the map that an engine writes has the pixels of the sheet. A number that is no engine's goes with the pairs.
+fn has_pixels(s: &Session, engine: u16, map: &[i16], values: &[u16]) -> bool {
+    let (w, h) = sides(s);
+    if by_values(engine) {
+        values.len() == w * h
+    } else {
+        map.len() == 2 * w * h
+    }
+}
+
 /// Builds the map.
-pub fn build(s: Session, sheet: &[u8], map: &mut [i16], scratch: &mut [i16], engine: u16, by: &Engines) -> Reply {
+pub fn build(s: Session, sheet: &[u8], map: &mut [i16], values: &mut [u16], scratch: &mut [i16], engine: u16, by: &Engines) -> Reply {
     if !is_active(&s) {
         return refused(s, 30);
     }
     let (w, h) = sides(&s);
     let short = engine == 1 && scratch.len() < plain_exact::scratch_need(w);
-    if sheet.len() != w * h || map.len() != 2 * w * h || short {
+    if sheet.len() != w * h || !has_pixels(&s, engine, map, values) || short {
         return refused(s, 12);
     }
     match engine {
         1 => (by.exact)(sheet, map, scratch, w, h),
         2 | 3 => (by.scan)(sheet, map, w, h, engine == 2),
+        4..=6 => plain_chamfer::chamfer(sheet, values, w, h, plain_chamfer::WEIGHTS[usize::from(engine - 4)]),
         _ => return refused(s, 14),
     }
     done(Session { current: true, engine, ..stale(s) })
@@ -114,24 +130,33 @@ pub fn rebuild(s: Session, map: &[i16], marks: &[u8], out: &mut [u8]) -> Reply {
 /// Steps to the right and down, clockwise from east.
 const STEPS: [(i32, i32); 8] = [(1, 0), (1, 1), (0, 1), (-1, 1), (-1, 0), (-1, -1), (0, -1), (1, -1)];
 
-/// Whether a labelled pixel of this size passes a cutter of q.
-fn passes(engine: u16, size: u32, q: u32) -> bool {
-    let (size, q) = (u64::from(size), u64::from(q));
+/// The gate of an engine: a labelled pixel passes a cutter of q if the first number times its size is above the second times q. The size of a
+/// value is its square.
+fn gate(engine: u16) -> [u64; 2] {
     match engine {
-        1 => q < size,
-        2 => 169 * q < 144 * size,
-        _ => 2 * q < size,
+        1 | 5 => [1, 1],
+        2 => [144, 169],
+        3 | 4 => [1, 2],
+        _ => [1, 10],
     }
 }
 
+/// The size of a labelled pair.
+fn size_of_pair([dx, dy]: [i16; 2]) -> Option<u32> {
+    ([dx, dy] != [i16::MIN; 2]).then(|| u32::from(dx.unsigned_abs()).pow(2) + u32::from(dy.unsigned_abs()).pow(2))
+}
+
+/// The size of a labelled value.
+fn size_of_value(value: u16) -> Option<u32> {
+    (value != plain_chamfer::UNLABELLED).then_some(u32::from(value).pow(2))
+}
+
 /// Runs the lowered cutter.
-pub fn run(s: Session, map: &[i16], direction: u16, count: u16) -> Reply {
-    let (w, h) = sides(&s);
+pub fn run(s: Session, map: &[i16], values: &[u16], direction: u16, count: u16) -> Reply {
     if !is_active(&s) {
         return refused(s, 30);
     }
-    let (map, rest) = map.as_chunks::<2>();
-    if map.len() != w * h || !rest.is_empty() {
+    if !has_pixels(&s, s.engine, map, values) {
         return refused(s, 12);
     }
     if direction > 7 || !(1..=2_047).contains(&count) {
@@ -140,19 +165,30 @@ pub fn run(s: Session, map: &[i16], direction: u16, count: u16) -> Reply {
     if !s.lowered {
         return refused(s, 32);
     }
-    let (right, down) = STEPS[usize::from(direction)];
+    let step = STEPS[usize::from(direction)];
+    if by_values(s.engine) {
+        run_over(s, step, count, |at| size_of_value(values[at]))
+    } else {
+        let (map, _) = map.as_chunks();
+        run_over(s, step, count, |at| size_of_pair(map[at]))
+    }
+}
+
+/// Runs the lowered cutter over a map that has this size at each labelled pixel.
+fn run_over(s: Session, (right, down): (i32, i32), count: u16, size: impl Fn(usize) -> Option<u32>) -> Reply {
+    let (w, h) = sides(&s);
     let after = |steps: u16| (i32::from(s.x) + right * i32::from(steps), i32::from(s.y) + down * i32::from(steps));
     let (x, y) = after(count);
     if !(0..w as i32).contains(&x) || !(0..h as i32).contains(&y) {
         return refused(s, 33);
     }
+    let [times, limit] = gate(s.engine);
+    let limit = limit * u64::from(s.q);
     let (mut blocked, mut closest) = (false, s.closest);
     for step in 1..=count {
         let (x, y) = after(step);
-        let [dx, dy] = map[y as usize * w + x as usize];
-        if [dx, dy] != [i16::MIN; 2] {
-            let size = u32::from(dx.unsigned_abs()).pow(2) + u32::from(dy.unsigned_abs()).pow(2);
-            blocked |= !passes(s.engine, size, s.q);
+        if let Some(size) = size(y as usize * w + x as usize) {
+            blocked |= times * u64::from(size) <= limit;
             if !closest.met || size < closest.size {
                 closest = Closest { met: true, size };
             }

@@ -3,7 +3,7 @@
 //! The stack below a function is painted with a pattern, and then a call is made there. How far down the pattern is gone is read in
 //! `/proc/self/mem`, Linux's file of a process's own memory, for no safe code can look at the part of a stack that nobody holds.
 
-use crate::{bare_row, lowered, map_of, Call, Memory, Slices, WHATS};
+use crate::{bare_row, lowered, map_of, plain_build, Call, Memory, Slices, WHATS};
 use abi::session::Reply;
 use model::boards;
 use std::fs::File;
@@ -29,13 +29,15 @@ const ROOM: usize = 1 << 14;
 /// A call by its name, and what it needs besides the sheet.
 type Measured = (&'static str, fn(&mut Slices), Call);
 
-/// The calls that are not timed, and a single run, since many are timed together.
-const OTHERS: [Measured; 7] = [
+/// The calls that are not timed, and a single run, since many are timed together. Place and run come over either kind of map.
+const OTHERS: [Measured; 9] = [
     ("open", |_| {}, |on| on.session.open(on.sheet, SIDE, SIDE)),
     ("paint", |_| {}, |on| on.session.paint(on.sheet, 0, 0, SIDE, SIDE)),
     ("erase", |_| {}, |on| on.session.erase(on.sheet, 0, 0, SIDE, SIDE)),
-    ("place", bare_row, |on| on.session.place(on.map, 0, 0, 0)),
-    ("run", lowered, |on| on.session.run(on.map, 0, SIDE - 1)),
+    ("place", bare_row, place),
+    ("place on values", draft, place),
+    ("run", lowered, run),
+    ("run on values", lowered_draft, run),
     ("lift", lowered, |on| on.session.lift()),
     ("map row", map_of, |on| {
         let row = on.session.map_row(on.map, SIDE - 1);
@@ -43,13 +45,33 @@ const OTHERS: [Measured; 7] = [
     }),
 ];
 
+fn place(on: &mut Slices) -> Reply {
+    on.session.place(on.map, on.values, 0, 0, 0)
+}
+
+fn run(on: &mut Slices) -> Reply {
+    on.session.run(on.map, on.values, 0, SIDE - 1)
+}
+
+/// The chamfer map of the sheet with its first row bare.
+fn draft(on: &mut Slices) {
+    bare_row(on);
+    on.session = plain_build(on, 6).session;
+}
+
+/// The same, with the cutter down where the row starts.
+fn lowered_draft(on: &mut Slices) {
+    draft(on);
+    on.session = place(on).session;
+}
+
 /// The table.
 pub fn table() -> io::Result<String> {
     let thread = thread::Builder::new().stack_size(STACK).spawn(measure)?;
     let lines = thread.join().expect("every call is done, on less of the stack than is painted")?;
     let mut text = format!("the stack that a call takes at {SIDE} × {SIDE}, in bytes, the most on any board\n\n");
     for (name, bytes) in lines {
-        text += &format!("{name:8}  {bytes:>6}\n");
+        text += &format!("{name:15}  {bytes:>6}\n");
     }
     Ok(text)
 }

@@ -1,10 +1,10 @@
 //! A job as a picture in SVG.
 //!
 //! The records run through the proved library, lent slices as `mill` lends them. Each build that is done starts a picture: the copper, the
-//! map as shades by size, the skeleton of an exact map as dots, and on it each place and run up to the next change of the sheet, with its
-//! record number: green where it was done, red where the gate refused it, with a cross at the pixel that failed. The disk around a place has
-//! the cutter's radius. Below stands in words how near to copper each placing that was done has come with its runs, in pixels by the map, and
-//! what is refused otherwise.
+//! map as shades by size or value, the skeleton of an exact map as dots, and on it each place and run up to the next change of the sheet, with
+//! its record number: green where it was done, red where the gate refused it, with a cross at the pixel that failed. The disk around a place
+//! has the cutter's radius. Below stands in words how near to copper each placing that was done has come with its runs, in pixels by the map,
+//! and what is refused otherwise. By a map of values that is the least distance that a value can stand for, as it is for the gate.
 
 mod picture;
 
@@ -30,7 +30,7 @@ pub(crate) struct Board {
     /// A byte a pixel, 0 for bare.
     sheet: Vec<u8>,
     /// The map, if one was built, and its skeleton, if it has one.
-    map: Option<Vec<i16>>,
+    map: Option<Map>,
     kept: Option<Vec<u8>>,
     /// The places and runs on it.
     tools: Vec<Tool>,
@@ -38,6 +38,14 @@ pub(crate) struct Board {
     approaches: Vec<(usize, Option<u32>)>,
     /// What was refused otherwise than by the gate.
     notes: Vec<String>,
+}
+
+/// A map as its engine wrote it.
+pub(crate) enum Map {
+    /// Two numbers a pixel, dx and dy, by engines 1 to 3.
+    Pairs(Vec<i16>),
+    /// A number a pixel, and the times q above which its square must be to pass the gate: 2, 1 and 10 by engines 4 to 6.
+    Values { numbers: Vec<u16>, times: u32 },
 }
 
 /// A place or a run that the gates looked at.
@@ -60,6 +68,7 @@ struct Mill {
     session: Session,
     sheet: Vec<u8>,
     map: Vec<i16>,
+    values: Vec<u16>,
     scratch: Vec<i16>,
     boards: Vec<Board>,
     /// The copper has changed since the last board.
@@ -70,9 +79,16 @@ struct Mill {
 
 /// The picture of a job's records; none if they touch no sheet and nothing is refused, so that there is nothing to show.
 pub fn picture(records: &[Record]) -> Option<String> {
-    let (sheet, map, scratch) = (vec![0; PIXELS], vec![0; 2 * PIXELS], vec![0; SCRATCH]);
-    let (boards, early) = (Vec::new(), Vec::new());
-    let mut mill = Mill { session: Session::fresh(), sheet, map, scratch, boards, changed: false, early };
+    let mut mill = Mill {
+        session: Session::fresh(),
+        sheet: vec![0; PIXELS],
+        map: vec![0; 2 * PIXELS],
+        values: vec![0; PIXELS],
+        scratch: vec![0; SCRATCH],
+        boards: Vec::new(),
+        changed: false,
+        early: Vec::new(),
+    };
     for (at, record) in records.iter().enumerate() {
         mill.obey(at + 1, record);
     }
@@ -111,7 +127,8 @@ impl Mill {
     fn call(&mut self, record: &Record) -> Reply {
         let (session, pixels) = (self.session, self.pixels());
         let short = |at: usize| record.numbers()[at] as u16;
-        let (sheet, map, scratch) = (&mut self.sheet[..pixels], &mut self.map[..2 * pixels], &mut self.scratch[..]);
+        let (sheet, map, values) = (&mut self.sheet[..pixels], &mut self.map[..2 * pixels], &mut self.values[..pixels]);
+        let scratch = &mut self.scratch[..];
         match record.kind() {
             1 => {
                 let opened = usize::from(short(0)) * usize::from(short(1));
@@ -120,27 +137,39 @@ impl Mill {
             }
             2 => session.paint(sheet, short(0), short(1), short(2), short(3)),
             3 => session.erase(sheet, short(0), short(1), short(2), short(3)),
-            4 => session.build(sheet, map, scratch, short(0)),
-            5 => session.place(map, short(0), short(1), record.numbers()[2]),
-            6 => session.run(map, short(0), short(1)),
+            4 => session.build(sheet, map, values, scratch, short(0)),
+            5 => session.place(map, values, short(0), short(1), record.numbers()[2]),
+            6 => session.run(map, values, short(0), short(1)),
             7 => session.lift(),
             8 => session.expand(sheet, map, scratch, record.numbers()[0]),
             _ => session.shrink(sheet, map, scratch, record.numbers()[0]),
         }
     }
 
+    /// The map of the kind that the session's engine writes.
+    fn map(&self) -> Map {
+        let pixels = self.pixels();
+        let values = |times| Map::Values { numbers: self.values[..pixels].to_vec(), times };
+        match self.session.engine {
+            4 => values(2),
+            5 => values(1),
+            6 => values(10),
+            _ => Map::Pairs(self.map[..2 * pixels].to_vec()),
+        }
+    }
+
     /// Starts a board with the sheet as it is, and the map if it is current.
     fn add(&mut self, title: String, mapped: bool) {
         let pixels = self.pixels();
-        let map = self.map[..2 * pixels].to_vec();
         let mut kept = vec![0; pixels];
-        let skeleton = mapped && self.session.skeleton(&map, &mut kept).answer == 0;
+        let skeleton = mapped && self.session.skeleton(&self.map[..2 * pixels], &mut kept).answer == 0;
+        let map = mapped.then(|| self.map());
         self.boards.push(Board {
             title,
             w: usize::from(self.session.width),
             h: usize::from(self.session.height),
             sheet: self.sheet[..pixels].to_vec(),
-            map: mapped.then_some(map),
+            map,
             kept: skeleton.then_some(kept),
             tools: Vec::new(),
             approaches: Vec::new(),
@@ -159,8 +188,8 @@ impl Mill {
         let mut tested = (count.min(1)..=count).map(|steps| (from.0 + steps * step.0, from.1 + steps * step.1));
         // the cutter alone, lowered at each pixel that the call tests: the first that the gate refuses
         let up = Session { lowered: false, x: 0, y: 0, q: 0, ..before };
-        let map = &self.map[..2 * self.pixels()];
-        let failed = tested.find(|&(x, y)| answer == 34 && up.place(map, x as u16, y as u16, q).answer == 34);
+        let (map, values) = (&self.map[..2 * self.pixels()], &self.values[..self.pixels()]);
+        let failed = tested.find(|&(x, y)| answer == 34 && up.place(map, values, x as u16, y as u16, q).answer == 34);
         let tool = Tool { record: number, from, step, count, q, failed };
         if let Some(board) = self.boards.last_mut() {
             board.tools.push(tool);

@@ -1,6 +1,6 @@
 //! Boards as SVG, one below the other.
 
-use crate::{Board, Tool};
+use crate::{Board, Map, Tool};
 use std::fmt::Write;
 
 /// Pixels of the picture to a pixel of a sheet, to a line of words, and the space around a sheet.
@@ -46,7 +46,7 @@ fn draw(out: &mut String, board: &Board, top: usize) -> std::fmt::Result {
     for tool in &board.tools {
         tool_path(out, tool)?;
     }
-    let approaches = board.approaches.iter().map(|&approach| (DONE, words(approach)));
+    let approaches = board.approaches.iter().map(|&approach| (DONE, words(board, approach)));
     let notes = board.notes.iter().map(|note| (REFUSED, note.clone()));
     for (line, (colour, text)) in approaches.chain(notes).enumerate() {
         writeln!(out, "<text x=\"0\" y=\"{}\" fill=\"{colour}\">{text}</text>", board.h * CELL + LINE * (line + 1))?;
@@ -54,21 +54,27 @@ fn draw(out: &mut String, board: &Board, top: usize) -> std::fmt::Result {
     writeln!(out, "</g>")
 }
 
-/// The closest approach of a placing in words, as a number of pixels. It is rounded down, so that no cutter seems farther off than it was.
-fn words((record, closest): (usize, Option<u32>)) -> String {
-    match closest.map(|size| (10_000 * u64::from(size)).isqrt()) {
-        Some(hundredths) => format!("{record}: closest approach {}.{:02} pixels", hundredths / 100, hundredths % 100),
-        None => format!("{record}: closest approach none: there is no copper"),
-    }
+/// The closest approach of a placing in words, as a number of pixels. It is rounded down, so that no cutter seems farther off than it was. Of
+/// a value it is the least distance at which copper can be.
+fn words(board: &Board, (record, closest): (usize, Option<u32>)) -> String {
+    let Some(size) = closest else { return format!("{record}: closest approach none: there is no copper") };
+    let (least, times, value) = match board.map {
+        Some(Map::Values { times, .. }) => ("at least ", times, format!(", value {}", size.isqrt())),
+        _ => ("", 1, String::new()),
+    };
+    let hundredths = (10_000 * u64::from(size) / u64::from(times)).isqrt();
+    format!("{record}: closest approach {least}{}.{:02} pixels{value}", hundredths / 100, hundredths % 100)
 }
 
-/// The sheet's pixels, each with its place and size as a title.
+/// The sheet's pixels, each with its place and its size or value as a title.
 fn pixels(out: &mut String, board: &Board) -> std::fmt::Result {
     let far = (0..board.w * board.h).filter_map(|at| size(board, at)).max().unwrap_or(0).max(1);
+    let values = matches!(board.map, Some(Map::Values { .. }));
     for at in 0..board.w * board.h {
         let (x, y) = (at % board.w * CELL, at / board.w * CELL);
         let (fill, words) = match size(board, at) {
             _ if board.sheet[at] != 0 => (COPPER.into(), "copper".into()),
+            Some(a) if values => (shade(a, far), format!("value {}", a.isqrt())),
             Some(a) => (shade(a, far), format!("size {a}")),
             None if board.map.is_some() => ("url(#none)".into(), "unlabelled".into()),
             None => ("#eee".into(), "bare".into()),
@@ -89,12 +95,15 @@ fn dots(out: &mut String, board: &Board) -> std::fmt::Result {
     Ok(())
 }
 
-/// The size at a pixel, if the board has a map and the pixel is labelled.
+/// The size at a pixel, if the board has a map and the pixel is labelled: dx² + dy², or the square of the value.
 fn size(board: &Board, at: usize) -> Option<u64> {
-    match board.map.as_ref()?[2 * at..2 * at + 2] {
-        [i16::MIN, i16::MIN] => None,
-        [dx, dy] => Some(u64::from(dx.unsigned_abs()).pow(2) + u64::from(dy.unsigned_abs()).pow(2)),
-        _ => unreachable!("two numbers"),
+    match board.map.as_ref()? {
+        Map::Pairs(numbers) => match numbers[2 * at..2 * at + 2] {
+            [i16::MIN, i16::MIN] => None,
+            [dx, dy] => Some(u64::from(dx.unsigned_abs()).pow(2) + u64::from(dy.unsigned_abs()).pow(2)),
+            _ => unreachable!("two numbers"),
+        },
+        Map::Values { numbers, .. } => Some(numbers[at]).filter(|&value| value != u16::MAX).map(|value| u64::from(value).pow(2)),
     }
 }
 

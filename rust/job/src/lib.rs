@@ -1,7 +1,7 @@
 //! Job files: the records as values, as bytes (document 01, "Job file") and as text that can be read and written by hand.
 //!
 //! A line of text is a record: its name and its numbers in the order of the file's fields. Directions and engines may be named, as in
-//! `run east 3` and `build exact`. What follows `#` is a comment, and empty lines count for nothing.
+//! `run east 3`, `build exact` and `build city-block`. What follows `#` is a comment, and empty lines count for nothing.
 //!
 //! ```
 //! let records = job::parse("open 4 4   # a small board\npaint 3 0 1 1\nbuild 4SED\nrun south-west 2\n").unwrap();
@@ -35,7 +35,7 @@ const KINDS: [Kind; 9] = [
 const DIRECTIONS: [&str; 8] = ["east", "south-east", "south", "south-west", "west", "north-west", "north", "north-east"];
 
 /// The engines, from number 1 on.
-const ENGINES: [&str; 3] = ["exact", "8sed", "4sed"];
+const ENGINES: [&str; 6] = ["exact", "8sed", "4sed", "city-block", "chessboard", "chamfer"];
 
 /// A kind of records.
 #[derive(Debug, PartialEq, Eq)]
@@ -305,7 +305,9 @@ mod tests {
             "line 1: `up` is no direction, one of east, south-east, south, south-west, west, north-west, north, north-east \
              or a number from 0 to 65535"
         );
-        assert_eq!(bad("build 6sed"), "line 1: `6sed` is no engine, one of exact, 8sed, 4sed or a number from 0 to 65535");
+        let engines = "exact, 8sed, 4sed, city-block, chessboard, chamfer";
+        assert_eq!(bad("build 6sed"), format!("line 1: `6sed` is no engine, one of {engines} or a number from 0 to 65535"));
+        assert_eq!(bad("build city block"), "line 1: `build` takes engine, 1 number and not 2");
         assert_eq!(bad(&"lift\n".repeat(16_385)), "line 16385: the job is longer than 65536 bytes here");
         assert_eq!(parse(&"lift\n".repeat(16_384)).unwrap().len(), 16_384);
     }
@@ -331,8 +333,9 @@ mod tests {
 
     #[test]
     fn names_of_numbers() {
-        let engines = "build exact\nbuild 8sed\nbuild 4sed\nbuild EXACT\nbuild 8SED\nbuild 4Sed\n";
-        assert_eq!(parse(engines), parse("build 1\nbuild 2\nbuild 3\nbuild 1\nbuild 2\nbuild 3\n"));
+        let numbers = parse("build 1\nbuild 2\nbuild 3\nbuild 4\nbuild 5\nbuild 6\n");
+        assert_eq!(parse("build exact\nbuild 8sed\nbuild 4sed\nbuild city-block\nbuild chessboard\nbuild chamfer\n"), numbers);
+        assert_eq!(parse("build EXACT\nbuild 8SED\nbuild 4Sed\nbuild City-Block\nbuild CHESSBOARD\nbuild Chamfer\n"), numbers);
         assert_eq!(parse("run north-east 1\nrun East 1\n"), parse("run 7 1\nrun 0 1\n"));
     }
 

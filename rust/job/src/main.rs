@@ -9,7 +9,8 @@ const USE: &str = "\
 use: job pack [FILE] > JOB       a job's text to the bytes that mill reads
      job unpack [FILE] > TEXT    the bytes back to text
      job -h | --help             these lines
-Without FILE standard input is read.
+Without FILE standard input is read. A line of text is a record, as in `run east 3`; what follows # is a comment.
+An engine has a number or a name: 1 exact, 2 8sed, 3 4sed, 4 city-block, 5 chessboard, 6 chamfer, as in `build chamfer`.
 ";
 
 fn main() -> ExitCode {

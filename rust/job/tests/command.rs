@@ -33,6 +33,17 @@ fn help() {
     }
 }
 
+/// The help names every engine as the text of a job may, with its number.
+#[test]
+fn engines() {
+    let help = String::from_utf8(written(&mut job(&["--help"]))).unwrap();
+    for (number, name) in (1..).zip(["exact", "8sed", "4sed", "city-block", "chessboard", "chamfer"]) {
+        assert!(help.contains(&format!("{number} {name}")), "{name}");
+        assert_eq!(job::parse(&format!("build {name}\n")), job::parse(&format!("build {number}\n")));
+    }
+    assert!(job::parse("build 6\n").is_ok_and(|records| job::text(&records) == "build 6\n"));
+}
+
 #[test]
 fn refused_words() {
     assert_stops(&mut job(&[]), 2, "`pack` or `unpack` is missing\nuse: ");

@@ -14,7 +14,7 @@ fn examples(extension: &str) -> Vec<PathBuf> {
 #[test]
 fn packed() {
     let texts = examples("txt");
-    assert!(texts.len() >= 3);
+    assert!(texts.len() >= 5);
     for text in texts {
         let records = job::parse(&fs::read_to_string(&text).unwrap()).unwrap_or_else(|bad| panic!("{}: {bad}", text.display()));
         let job = fs::read(text.with_extension("job")).unwrap();

@@ -38,7 +38,7 @@ pub fn random(random: &mut Random) -> Vec<u8> {
             2 => format!("open {} {}", random.below(3_000), random.below(9)),
             3..=6 => format!("paint {x} {y} {} {}", random.between(0, 3), random.between(0, 3)),
             7 => format!("erase {x} {y} 2 1"),
-            8..=11 => format!("build {}", random.between(0, 4)),
+            8..=11 => format!("build {}", random.between(0, 7)),
             12..=15 => format!("place {x} {y} {q}"),
             16..=19 => format!("run {} {}", random.between(0, 8), random.between(0, 5)),
             20 => "lift".into(),

@@ -18,7 +18,7 @@ fn examples() {
         assert_eq!(model::job::printed(&bytes), expected, "{}", job.display());
         count += 1;
     }
-    assert!(count >= 4);
+    assert!(count >= 6);
 }
 
 #[test]
@@ -30,13 +30,18 @@ fn as_the_model() {
     }
 }
 
-/// The sheets on which `mill` comes to the ends of its buffers: with all its pixels, the widest, of few rows and of few columns.
+/// The sheets on which `mill` comes to the ends of its buffers: with all its pixels, the widest, of few rows and of few columns. On each every
+/// engine builds its map, and a cutter goes from the first and from the last pixel.
 #[test]
 fn largest_sheets() {
     let wide = (1..=5).flat_map(|few| [(2_048, few), (few, 2_048), (2_047, few)]);
     for (w, h) in wide.chain([(90, 91), (91, 90), (64, 128), (1, 1)]) {
+        let paint = format!("paint {} {} 1 1\n", w / 2, h / 2);
         let calls = "build 1\nplace 0 0 1\nrun east 1\nexpand 2\nbuild 1\nshrink 1\nbuild 2\nbuild 1\nplace 0 0 4\n";
-        let text = format!("open {w} {h}\npaint {} {} 1 1\n{calls}", w / 2, h / 2);
+        let mut text = format!("open {w} {h}\n{paint}{calls}{paint}");
+        for engine in 1..=6 {
+            text += &format!("build {engine}\nplace 0 0 4\nrun south 1\nplace {} {} 9\nrun west 2\nlift\n", w - 1, h - 1);
+        }
         let job = job::pack(&job::parse(&text).unwrap());
         let found = printed(&job);
         assert_eq!(found, model::job::printed(&job), "{text}");

@@ -3,6 +3,7 @@
 use crate::session::Fields;
 
 /// A session and its calls. Each takes the session by value and hands it back behind its answer number, which is 0 if the call was done.
+/// Lent as `map` are the pairs, two numbers a pixel, and as `values` the maps with one number a pixel.
 pub trait Calls: Copy + From<Fields> + Into<Fields> {
     /// A session with nothing open, the map not current, the cutter up.
     fn fresh() -> Self;
@@ -16,14 +17,14 @@ pub trait Calls: Copy + From<Fields> + Into<Fields> {
     /// Erases a rectangle.
     fn erase(self, sheet: &mut [u8], x: u16, y: u16, w: u16, h: u16) -> (u32, Self);
 
-    /// Builds the map by engine 1 exact, 2 8SED or 3 4SED.
-    fn build(self, sheet: &[u8], map: &mut [i16], scratch: &mut [i16], engine: u16) -> (u32, Self);
+    /// Builds a map: the pairs by engine 1 exact, 2 8SED or 3 4SED, the values by 4 city block, 5 chessboard or 6 chamfer.
+    fn build(self, sheet: &[u8], map: &mut [i16], values: &mut [u16], scratch: &mut [i16], engine: u16) -> (u32, Self);
 
     /// Places the cutter at (x, y) with q.
-    fn place(self, map: &[i16], x: u16, y: u16, q: u32) -> (u32, Self);
+    fn place(self, map: &[i16], values: &[u16], x: u16, y: u16, q: u32) -> (u32, Self);
 
     /// Runs the lowered cutter `count` steps in one of the eight directions.
-    fn run(self, map: &[i16], direction: u16, count: u16) -> (u32, Self);
+    fn run(self, map: &[i16], values: &[u16], direction: u16, count: u16) -> (u32, Self);
 
     /// Lifts the cutter.
     fn lift(self) -> (u32, Self);

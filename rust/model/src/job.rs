@@ -51,7 +51,13 @@ fn short(bytes: &[u8]) -> u16 {
 /// What `mill` prints.
 pub fn printed(job: &[u8]) -> String {
     let Some(records) = split(job) else { return "0 19\n".into() };
-    let mut mill = Mill { session: Fields::FRESH, sheet: vec![0; PIXELS], map: vec![0; 2 * PIXELS], scratch: vec![0; SCRATCH] };
+    let mut mill = Mill {
+        session: Fields::FRESH,
+        sheet: vec![0; PIXELS],
+        map: vec![0; 2 * PIXELS],
+        values: vec![0; PIXELS],
+        scratch: vec![0; SCRATCH],
+    };
     let answers = records.iter().map(|&(kind, fields)| mill.answer(kind, fields));
     answers.enumerate().map(|(at, answer)| format!("{} {answer}\n", at + 1)).collect()
 }
@@ -60,6 +66,7 @@ struct Mill {
     session: Fields,
     sheet: Vec<u8>,
     map: Vec<i16>,
+    values: Vec<u16>,
     scratch: Vec<i16>,
 }
 
@@ -74,14 +81,15 @@ impl Mill {
             1 => pixels(at(0), at(1)),
             _ => pixels(open.width, open.height),
         };
-        let (sheet, map, scratch) = (&mut self.sheet[..lent], &mut self.map[..2 * lent], &mut self.scratch[..]);
+        let (sheet, map, values) = (&mut self.sheet[..lent], &mut self.map[..2 * lent], &mut self.values[..lent]);
+        let scratch = &mut self.scratch[..];
         let (answer, session) = match kind {
             1 => open.open(sheet, at(0), at(1)),
             2 => open.paint(sheet, at(0), at(1), at(2), at(3)),
             3 => open.erase(sheet, at(0), at(1), at(2), at(3)),
-            4 => open.build(sheet, map, scratch, at(0)),
-            5 => open.place(map, at(0), at(1), q(2)),
-            6 => open.run(map, at(0), at(1)),
+            4 => open.build(sheet, map, values, scratch, at(0)),
+            5 => open.place(map, values, at(0), at(1), q(2)),
+            6 => open.run(map, values, at(0), at(1)),
             7 => open.lift(),
             8 => open.expand(sheet, map, scratch, q(0)),
             _ => open.shrink(sheet, map, scratch, q(0)),
@@ -107,6 +115,22 @@ mod tests {
         assert_eq!(count(JOB), Some(9));
     }
 
+    /// The sheet of document 01's job with a draft: in the corner the largest q that passes, and before it the next. Only 1 to 6 are engines.
+    #[test]
+    fn drafts() {
+        let sheet = &JOB[..44];
+        let build = |engine: u8| [6, 0, 4, 0, engine, 0];
+        let place = |q: u8| [12, 0, 5, 0, 0, 0, 0, 0, q, 0, 0, 0];
+        for (engine, most) in [(4, 4), (5, 3), (6, 6)] {
+            let job = [sheet, &build(engine), &place(most + 1), &place(most)].concat();
+            assert_eq!(printed(&job), "1 0\n2 0\n3 0\n4 0\n5 0\n6 34\n7 0\n", "engine {engine}");
+            // an exact map after it and before it: the last one counts
+            let job = [sheet, &build(engine), &build(1), &place(7), &build(engine), &place(7)].concat();
+            assert_eq!(printed(&job), "1 0\n2 0\n3 0\n4 0\n5 0\n6 0\n7 0\n8 0\n9 34\n", "engine {engine}");
+        }
+        assert_eq!(printed(&[sheet, &build(0), &build(7)].concat()), "1 0\n2 0\n3 0\n4 0\n5 14\n6 14\n");
+    }
+
     #[test]
     fn damaged() {
         for cut in 1..JOB.len() {
@@ -127,8 +151,9 @@ mod tests {
         assert_eq!(printed(&open(2_049, 1)), "1 11\n");
         // scratch is enough on the widest, however few rows they have
         let [build, expand, shrink] = [&[6, 0, 4, 0, 1, 0][..], &[8, 0, 8, 0, 1, 0, 0, 0], &[8, 0, 9, 0, 1, 0, 0, 0]];
+        let draft = &[6, 0, 4, 0, 6, 0];
         for h in 1..=4 {
-            assert_eq!(printed(&[&open(2_048, h), build, expand, shrink].concat()), "1 0\n2 0\n3 0\n4 0\n");
+            assert_eq!(printed(&[&open(2_048, h), build, expand, shrink, draft].concat()), "1 0\n2 0\n3 0\n4 0\n5 0\n");
         }
     }
 }

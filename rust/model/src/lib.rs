@@ -3,6 +3,7 @@
 
 pub mod boards;
 pub mod calls;
+pub mod chamfer;
 pub mod exact;
 pub mod job;
 pub mod maps;

@@ -24,6 +24,23 @@ pub fn any_with_copper(pixels: usize, random: &mut Random) -> Vec<[i16; 2]> {
     map
 }
 
+/// A map of values that holds anything.
+pub fn any_values(pixels: usize, random: &mut Random) -> Vec<u16> {
+    let kinds = [3, 5][random.below(2) as usize];
+    (0..pixels).map(|_| value(kinds, random)).collect()
+}
+
+/// A value of one of the first kinds of those below.
+fn value(kinds: u64, random: &mut Random) -> u16 {
+    match random.below(kinds) {
+        0 | 1 => random.below(20) as u16,
+        2 => [0, 65_535][random.below(2) as usize],
+        // those around which the gates are at the largest q, and the largest of all
+        3 => [2_047, 2_048, 2_049, 2_896, 2_897, 6_476, 6_477, 65_504, 65_534][random.below(9) as usize],
+        _ => random.next() as u16,
+    }
+}
+
 /// A vector of one of the first kinds of those below.
 fn vector(kinds: u64, random: &mut Random) -> [i16; 2] {
     let mut short = |most: usize| random.between(0, 2 * most) as i16 - most as i16;

@@ -4,7 +4,7 @@
 use crate::calls::Calls;
 use crate::scans::{self, UNLABELLED};
 use crate::skeleton::{self, size};
-use crate::{exact, resize};
+use crate::{chamfer, exact, resize};
 
 /// The longest side of a sheet.
 const MAX_SIDE: u16 = 2_048;
@@ -32,7 +32,7 @@ pub struct Fields {
     pub height: u16,
     /// Whether the map is current.
     pub current: bool,
-    /// The engine that built the map: 1 exact, 2 8SED, 3 4SED.
+    /// The engine that built the map: 1 exact, 2 8SED, 3 4SED, 4 city block, 5 chessboard, 6 chamfer.
     pub engine: u16,
     /// Whether the cutter is down.
     pub lowered: bool,
@@ -69,6 +69,37 @@ enum Engine {
     Exact,
     Eight,
     Four,
+    CityBlock,
+    Chessboard,
+    Chamfer,
+}
+
+/// A kind of map.
+#[derive(Clone, Copy, Debug, PartialEq, Eq)]
+pub enum Kind {
+    /// Two signed numbers a pixel, dx and dy.
+    Pairs,
+    /// One unsigned number a pixel.
+    Values,
+}
+
+/// The kind of map that build writes with an engine's number, and that place and run read if it has built the current one. A number that is
+/// no engine's, also the 0 of a map that is not current, goes with the pairs.
+pub fn kind(engine: u16) -> Kind {
+    Engine::numbered(engine).map_or(Kind::Pairs, Engine::kind)
+}
+
+/// A map that is built.
+enum Map {
+    Pairs(Vec<[i16; 2]>),
+    Values(Vec<u16>),
+}
+
+/// The maps that are lent to a call, of any lengths.
+#[derive(Clone, Copy)]
+struct Maps<'a> {
+    map: &'a [i16],
+    values: &'a [u16],
 }
 
 /// A lowered cutter.
@@ -90,7 +121,7 @@ fn vectors(map: &[i16]) -> Vec<[i16; 2]> {
 }
 
 impl Engine {
-    const ALL: [Engine; 3] = [Engine::Exact, Engine::Eight, Engine::Four];
+    const ALL: [Engine; 6] = [Engine::Exact, Engine::Eight, Engine::Four, Engine::CityBlock, Engine::Chessboard, Engine::Chamfer];
 
     fn numbered(number: u16) -> Option<Engine> {
         Engine::ALL.into_iter().find(|engine| engine.number() == number)
@@ -101,26 +132,60 @@ impl Engine {
             Engine::Exact => 1,
             Engine::Eight => 2,
             Engine::Four => 3,
+            Engine::CityBlock => 4,
+            Engine::Chessboard => 5,
+            Engine::Chamfer => 6,
         }
     }
 
-    /// Whether a pixel with this vector passes the gate for q.
-    fn passes(self, way: [i16; 2], q: u32) -> bool {
-        let (a, q) = (size(way), u64::from(q));
-        way == UNLABELLED
-            || match self {
-                Engine::Exact => a > q,
-                Engine::Eight => 144 * a > 169 * q,
-                Engine::Four => a > 2 * q,
-            }
+    fn kind(self) -> Kind {
+        match self {
+            Engine::Exact | Engine::Eight | Engine::Four => Kind::Pairs,
+            Engine::CityBlock | Engine::Chessboard | Engine::Chamfer => Kind::Values,
+        }
+    }
+
+    /// Whether a labelled pixel of this size passes the gate for q.
+    fn passes(self, size: u64, q: u32) -> bool {
+        let q = u64::from(q);
+        match self {
+            Engine::Exact => size > q,
+            Engine::Eight => 144 * size > 169 * q,
+            Engine::Four => size > 2 * q,
+            Engine::CityBlock => size > 2 * q,
+            Engine::Chessboard => size > q,
+            Engine::Chamfer => size > 10 * q,
+        }
     }
 
     /// The map of a sheet.
-    fn map(self, sheet: &[u8], w: usize, h: usize) -> Vec<[i16; 2]> {
+    fn map(self, sheet: &[u8], w: usize, h: usize) -> Map {
+        let values = |weights| Map::Values(chamfer::sooner(sheet, w, h, weights));
         match self {
-            Engine::Exact => exact::sooner(sheet, w, h),
-            Engine::Eight => scans::scan(sheet, w, h, true),
-            Engine::Four => scans::scan(sheet, w, h, false),
+            Engine::Exact => Map::Pairs(exact::sooner(sheet, w, h)),
+            Engine::Eight => Map::Pairs(scans::scan(sheet, w, h, true)),
+            Engine::Four => Map::Pairs(scans::scan(sheet, w, h, false)),
+            Engine::CityBlock => values(chamfer::CITY_BLOCK),
+            Engine::Chessboard => values(chamfer::CHESSBOARD),
+            Engine::Chamfer => values(chamfer::CHAMFER),
+        }
+    }
+}
+
+impl Maps<'_> {
+    /// Whether the map of a kind has the right length for a sheet of so many pixels.
+    fn fit(self, kind: Kind, pixels: usize) -> bool {
+        match kind {
+            Kind::Pairs => self.map.len() == 2 * pixels,
+            Kind::Values => self.values.len() == pixels,
+        }
+    }
+
+    /// The size of a pixel on the map of a kind: dx² + dy², or the square of the value. None if it is unlabelled.
+    fn size(self, kind: Kind, at: usize) -> Option<u64> {
+        match kind {
+            Kind::Pairs => Some([self.map[2 * at], self.map[2 * at + 1]]).filter(|&way| way != UNLABELLED).map(size),
+            Kind::Values => Some(self.values[at]).filter(|&value| value != chamfer::UNLABELLED).map(|value| u64::from(value).pow(2)),
         }
     }
 }
@@ -158,25 +223,25 @@ impl Open {
         Open { map: self.map.map(|map| Current { cutter, closest, ..map }), ..self }
     }
 
-    /// The vector at a pixel of the sheet, by a map of the right length.
-    fn way(self, map: &[i16], (x, y): (i64, i64)) -> [i16; 2] {
-        let at = 2 * (y as usize * usize::from(self.w) + x as usize);
-        [map[at], map[at + 1]]
+    /// The kind of map that place and run read.
+    fn kind(self) -> Kind {
+        self.map.map_or(Kind::Pairs, |map| map.engine.kind())
+    }
+
+    /// The size at a pixel. None if it is unlabelled or off the sheet, or if the map that is read has a wrong length.
+    fn size(self, maps: Maps, (x, y): (i64, i64)) -> Option<u64> {
+        let there = self.holds(x, y) && maps.fit(self.kind(), self.pixels());
+        there.then(|| maps.size(self.kind(), y as usize * usize::from(self.w) + x as usize)).flatten()
     }
 
     /// The least size of the labelled ones among pixels of the sheet.
-    fn least(self, map: &[i16], pixels: &[(i64, i64)]) -> Option<u32> {
-        let labelled = pixels.iter().map(|&pixel| self.way(map, pixel)).filter(|&way| way != UNLABELLED);
-        labelled.map(|way| size(way) as u32).min()
+    fn least(self, maps: Maps, pixels: &[(i64, i64)]) -> Option<u32> {
+        pixels.iter().filter_map(|&pixel| self.size(maps, pixel)).map(|size| size as u32).min()
     }
 
-    /// Whether the gate fails at a pixel for q. No gate fails off the sheet, on a map of a wrong length or on one that is not current.
-    fn fails(self, map: &[i16], (x, y): (i64, i64), q: u32) -> bool {
-        let Some(Current { engine, .. }) = self.map else { return false };
-        if !self.holds(x, y) || map.len() != 2 * self.pixels() {
-            return false;
-        }
-        !engine.passes(self.way(map, (x, y)), q)
+    /// Whether the gate fails at a pixel for q. None fails where there is no size, or if no map is current.
+    fn fails(self, maps: Maps, pixel: (i64, i64), q: u32) -> bool {
+        self.map.is_some_and(|map| self.size(maps, pixel).is_some_and(|size| !map.engine.passes(size, q)))
     }
 }
 
@@ -306,38 +371,43 @@ impl Calls for Fields {
         self.fill(sheet, [x, y, w, h], 0)
     }
 
-    fn build(self, sheet: &[u8], map: &mut [i16], scratch: &mut [i16], engine: u16) -> (u32, Fields) {
+    fn build(self, sheet: &[u8], map: &mut [i16], values: &mut [u16], scratch: &mut [i16], engine: u16) -> (u32, Fields) {
         let Some(open) = self.read() else { return (30, self) };
         let (pixels, need) = (open.pixels(), scratch_need(open.w.into()));
+        let fit = sheet.len() == pixels && Maps { map, values }.fit(kind(engine), pixels);
         let engine = Engine::numbered(engine);
         let short = engine == Some(Engine::Exact) && scratch.len() < need;
-        let answer = answer(&[(12, sheet.len() != pixels || map.len() != 2 * pixels || short), (14, engine.is_none())]);
+        let answer = answer(&[(12, !fit || short), (14, engine.is_none())]);
         let Some(engine) = engine.filter(|_| answer == 0) else { return (answer, self) };
-        map.copy_from_slice(engine.map(sheet, open.w.into(), open.h.into()).as_flattened());
+        match engine.map(sheet, open.w.into(), open.h.into()) {
+            Map::Pairs(built) => map.copy_from_slice(built.as_flattened()),
+            Map::Values(built) => values.copy_from_slice(&built),
+        }
         if engine == Engine::Exact {
             scratch[..need].fill(0);
         }
         (0, Fields::of(Some(Open { map: Some(Current { engine, cutter: None, closest: None }), ..open })))
     }
 
-    fn place(self, map: &[i16], x: u16, y: u16, q: u32) -> (u32, Fields) {
+    fn place(self, map: &[i16], values: &[u16], x: u16, y: u16, q: u32) -> (u32, Fields) {
         let Some(open) = self.read() else { return (30, self) };
-        let pixel = (x.into(), y.into());
+        let (maps, pixel) = (Maps { map, values }, (x.into(), y.into()));
         let answer = answer(&[
-            (12, map.len() != 2 * open.pixels()),
+            (12, !maps.fit(open.kind(), open.pixels())),
             (15, q > MAX_Q),
             (16, !open.holds(pixel.0, pixel.1)),
             (31, open.map.is_none()),
-            (34, open.fails(map, pixel, q)),
+            (34, open.fails(maps, pixel, q)),
         ]);
         if answer != 0 {
             return (answer, self);
         }
-        (0, Fields::of(Some(open.with(Some(Cutter { x, y, q }), open.least(map, &[pixel])))))
+        (0, Fields::of(Some(open.with(Some(Cutter { x, y, q }), open.least(maps, &[pixel])))))
     }
 
-    fn run(self, map: &[i16], direction: u16, count: u16) -> (u32, Fields) {
+    fn run(self, map: &[i16], values: &[u16], direction: u16, count: u16) -> (u32, Fields) {
         let Some(open) = self.read() else { return (30, self) };
+        let maps = Maps { map, values };
         let step = DIRECTIONS.get(usize::from(direction));
         // the pixels after the start; there are none without a cutter or a direction
         let path: Vec<(i64, i64)> = match (open.cutter(), step) {
@@ -349,14 +419,14 @@ impl Calls for Fields {
         };
         let q = open.cutter().map_or(0, |cutter| cutter.q);
         let answer = answer(&[
-            (12, map.len() != 2 * open.pixels()),
+            (12, !maps.fit(open.kind(), open.pixels())),
             (17, step.is_none() || !(1..=MAX_COUNT).contains(&count)),
             (32, open.cutter().is_none()),
             (33, path.iter().any(|&(x, y)| !open.holds(x, y))),
-            (34, path.iter().any(|&pixel| open.fails(map, pixel, q))),
+            (34, path.iter().any(|&pixel| open.fails(maps, pixel, q))),
         ]);
         let Some(&(x, y)) = path.last().filter(|_| answer == 0) else { return (answer, self) };
-        let closest = open.least(map, &path).into_iter().chain(open.closest()).min();
+        let closest = open.least(maps, &path).into_iter().chain(open.closest()).min();
         (0, Fields::of(Some(open.with(Some(Cutter { x: x as u16, y: y as u16, q }), closest))))
     }
 
@@ -389,6 +459,36 @@ impl Calls for Fields {
                 &map[usize::from(y) * row..][..row]
             }
             _ => &map[..0],
+        }
+    }
+}
+
+#[cfg(test)]
+mod tests {
+    use super::*;
+
+    /// Engines 4 to 6 have values. Everything else has pairs, also what is no engine.
+    #[test]
+    fn kinds() {
+        for engine in (0..=9).chain([255, 256, 260, 32_772, 65_535]) {
+            let expected = if (4..=6).contains(&engine) { Kind::Values } else { Kind::Pairs };
+            assert_eq!(kind(engine), expected, "{engine}");
+        }
+    }
+
+    /// On one engine's map the values are read, on another's the pairs.
+    #[test]
+    fn sizes() {
+        let maps = Maps { map: &[3, -4, -32_768, -32_768, -32_768, 0], values: &[7, 65_535, 65_534] };
+        assert_eq!([0, 1, 2].map(|at| maps.size(Kind::Pairs, at)), [Some(25), None, Some(1_073_741_824)]);
+        assert_eq!([0, 1, 2].map(|at| maps.size(Kind::Values, at)), [Some(49), None, Some(4_294_705_156)]);
+    }
+
+    /// The largest q that passes for a pixel of size 676 by each engine, and the next.
+    #[test]
+    fn gates() {
+        for (engine, most) in Engine::ALL.into_iter().zip([675, 575, 337, 337, 675, 67]) {
+            assert!(engine.passes(676, most) && !engine.passes(676, most + 1), "{engine:?}");
         }
     }
 }

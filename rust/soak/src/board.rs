@@ -27,12 +27,53 @@ pub struct Left<'a> {
     pub session: &'a Fields,
     /// The sheet.
     pub sheet: &'a [u8],
-    /// The map.
+    /// The pairs.
     pub map: &'a [i16],
+    /// The values.
+    pub values: &'a [u16],
+}
+
+impl Left<'_> {
+    /// The size of a pixel on the map that an engine has built, none if it is unlabelled: the square of a value, otherwise dx² + dy².
+    fn size(&self, engine: u16, at: usize) -> Option<u64> {
+        if weights(engine).is_some() {
+            let value = self.values[at];
+            return (value != 65_535).then_some(u64::from(value).pow(2));
+        }
+        let way = [self.map[2 * at], self.map[2 * at + 1]];
+        (way != [i16::MIN; 2]).then(|| size(way))
+    }
+}
+
+/// What a side step and a corner step cost on the values of an engine. None if it writes no values.
+fn weights(engine: u16) -> Option<[u64; 2]> {
+    match engine {
+        4 => Some([1, 2]),
+        5 => Some([1, 1]),
+        6 => Some([3, 4]),
+        _ => None,
+    }
+}
+
+/// How far a pixel is from copper at most if the gate of an engine has turned the cutter away there.
+fn refused_within(engine: u16, q: u32) -> u64 {
+    let q = u64::from(q);
+    match engine {
+        1 => q,
+        2 => 169 * q / 144,
+        3..=5 => 2 * q,
+        _ => 5 * q / 4,
+    }
 }
 
 fn apart((x, y): Pixel, (column, row): Pixel) -> u64 {
     ((x - column).pow(2) + (y - row).pow(2)) as u64
+}
+
+/// What a way from one pixel to another costs: corner steps as far as both offsets go, and side steps for what is left of one.
+fn cost([side, corner]: [u64; 2], (x, y): Pixel, (column, row): Pixel) -> u64 {
+    let (across, along) = (x.abs_diff(column), y.abs_diff(row));
+    side * across.abs_diff(along) + corner * across.min(along)
 }
 
 /// The pixels of a rectangle.
@@ -106,8 +147,8 @@ impl Board {
     }
 
     /// Feeds the board a call and its answer, and asserts what is promised of every call of a list: a cutter that is brought down or run
-    /// comes to no pixel with copper within q; one that is turned away with 34 had a pixel with copper within q, or on the quick maps
-    /// within the engine's fraction of it; session and sheet agree with the board; the closest approach is recorded.
+    /// comes to no pixel with copper within q; one that is turned away with 34 had a pixel with copper within q, or on the quick maps and
+    /// the drafts within the engine's fraction of it; session and sheet agree with the board; the closest approach is recorded.
     pub fn feed(&mut self, call: Call, answer: u32, left: &Left, about: &impl Debug) {
         let tested = self.tested(call);
         let on_sheet = |(x, y): Pixel| (0..self.w.into()).contains(&x) && (0..self.h.into()).contains(&y);
@@ -121,11 +162,7 @@ impl Board {
                 self.done(call);
             }
             34 => {
-                let within = |&(pixel, q): &(Pixel, u32)| match self.engine {
-                    1 => self.near(pixel, q.into()),
-                    2 => self.near(pixel, 169 * u64::from(q) / 144),
-                    _ => self.near(pixel, 2 * u64::from(q)),
-                };
+                let within = |&(pixel, q): &(Pixel, u32)| self.near(pixel, refused_within(self.engine, q));
                 assert!(self.engine != 0 && tested.iter().any(within), "34 with all copper far off: {about:?}");
             }
             _ => {}
@@ -134,19 +171,19 @@ impl Board {
         self.approached(left, about);
     }
 
-    /// Asserts that the closest approach is the least size on the map of the pixels visited, and on an exact map the least squared distance
-    /// from one of them to copper.
+    /// Asserts that the closest approach is the least size on the map of the pixels visited. On an exact map it is the least squared distance
+    /// from one of them to copper, and on a draft the square of what the cheapest way costs.
     fn approached(&self, left: &Left, about: &impl Debug) {
         let recorded = left.session.met.then_some(u64::from(left.session.closest));
-        let way = |&(x, y): &Pixel| {
-            let at = 2 * (y * i64::from(self.w) + x) as usize;
-            [left.map[at], left.map[at + 1]]
-        };
-        let sizes = self.visited.iter().map(way).filter(|&way| way != [i16::MIN; 2]).map(size);
+        let sizes = self.visited.iter().filter_map(|&(x, y)| left.size(self.engine, (y * i64::from(self.w) + x) as usize));
         assert_eq!(recorded, sizes.min(), "the closest approach: {about:?}");
+        let ways = self.visited.iter().flat_map(|&pixel| self.copper.iter().map(move |&copper| (copper, pixel)));
         if self.engine == 1 {
-            let distances = self.visited.iter().flat_map(|&pixel| self.copper.iter().map(move |&copper| apart(copper, pixel)));
+            let distances = ways.map(|(copper, pixel)| apart(copper, pixel));
             assert_eq!(recorded, distances.min(), "the closest approach to copper: {about:?}");
+        } else if let Some(weights) = weights(self.engine) {
+            let costs = ways.map(|(copper, pixel)| cost(weights, copper, pixel).pow(2));
+            assert_eq!(recorded, costs.min(), "the closest approach by steps: {about:?}");
         }
     }
 

@@ -81,8 +81,10 @@ pub enum Call {
 pub struct Slices {
     /// The sheet, a byte a pixel.
     pub sheet: Vec<u8>,
-    /// The map, two numbers a pixel.
+    /// The pairs, two numbers a pixel.
     pub map: Vec<i16>,
+    /// The values, one number a pixel.
+    pub values: Vec<u16>,
     /// What exact works in.
     pub scratch: Vec<i16>,
     /// The marked pixels that rebuild reads.
@@ -95,6 +97,7 @@ pub struct Slices {
 pub struct Lending<'a> {
     sheet: &'a mut [u8],
     map: &'a mut [i16],
+    values: &'a mut [u16],
     scratch: &'a mut [i16],
     marks: &'a mut [u8],
     out: &'a mut [u8],
@@ -103,8 +106,8 @@ pub struct Lending<'a> {
 impl Slices {
     /// Lends all of them.
     pub fn lend(&mut self) -> Lending<'_> {
-        let Slices { sheet, map, scratch, marks, out } = self;
-        Lending { sheet, map, scratch, marks, out }
+        let Slices { sheet, map, values, scratch, marks, out } = self;
+        Lending { sheet, map, values, scratch, marks, out }
     }
 }
 
@@ -136,14 +139,14 @@ impl Call {
 
     /// Makes the call of a session with these slices.
     pub fn make<S: Calls>(self, session: S, slices: Lending) -> (u32, S) {
-        let Lending { sheet, map, scratch, marks, out } = slices;
+        let Lending { sheet, map, values, scratch, marks, out } = slices;
         match self {
             Call::Open { w, h } => session.open(sheet, w, h),
             Call::Paint { x, y, w, h } => session.paint(sheet, x, y, w, h),
             Call::Erase { x, y, w, h } => session.erase(sheet, x, y, w, h),
-            Call::Build { engine } => session.build(sheet, map, scratch, engine),
-            Call::Place { x, y, q } => session.place(map, x, y, q),
-            Call::Run { direction, count } => session.run(map, direction, count),
+            Call::Build { engine } => session.build(sheet, map, values, scratch, engine),
+            Call::Place { x, y, q } => session.place(map, values, x, y, q),
+            Call::Run { direction, count } => session.run(map, values, direction, count),
             Call::Lift => session.lift(),
             Call::Expand { q } => session.expand(sheet, map, scratch, q),
             Call::Shrink { q } => session.shrink(sheet, map, scratch, q),
@@ -156,13 +159,22 @@ impl Call {
     pub fn make_within<S: Calls>(self, session: S, slices: &mut Slices, random: &mut Random, about: &impl Debug) -> (u32, S) {
         let mut sheet = Lent::around(&slices.sheet, MARGIN, || random.next() as u8);
         let mut map = Lent::around(&slices.map, MARGIN, || random.next() as i16);
+        let mut values = Lent::around(&slices.values, MARGIN, || random.next() as u16);
         let mut scratch = Lent::around(&slices.scratch, MARGIN, || random.next() as i16);
         let mut marks = Lent::around(&slices.marks, MARGIN, || random.next() as u8);
         let mut out = Lent::around(&slices.out, MARGIN, || random.next() as u8);
-        let lending = Lending { sheet: sheet.slice(), map: map.slice(), scratch: scratch.slice(), marks: marks.slice(), out: out.slice() };
+        let lending = Lending {
+            sheet: sheet.slice(),
+            map: map.slice(),
+            values: values.slice(),
+            scratch: scratch.slice(),
+            marks: marks.slice(),
+            out: out.slice(),
+        };
         let made = self.make(session, lending);
         take_back(&mut slices.sheet, &sheet, "sheet", about);
         take_back(&mut slices.map, &map, "map", about);
+        take_back(&mut slices.values, &values, "values", about);
         take_back(&mut slices.scratch, &scratch, "scratch", about);
         take_back(&mut slices.marks, &marks, "marks", about);
         take_back(&mut slices.out, &out, "output", about);

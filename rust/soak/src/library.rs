@@ -44,16 +44,16 @@ impl Calls for Library {
         told(self.0.erase(sheet, x, y, w, h))
     }
 
-    fn build(self, sheet: &[u8], map: &mut [i16], scratch: &mut [i16], engine: u16) -> (u32, Self) {
-        told(self.0.build(sheet, map, scratch, engine))
+    fn build(self, sheet: &[u8], map: &mut [i16], values: &mut [u16], scratch: &mut [i16], engine: u16) -> (u32, Self) {
+        told(self.0.build(sheet, map, values, scratch, engine))
     }
 
-    fn place(self, map: &[i16], x: u16, y: u16, q: u32) -> (u32, Self) {
-        told(self.0.place(map, x, y, q))
+    fn place(self, map: &[i16], values: &[u16], x: u16, y: u16, q: u32) -> (u32, Self) {
+        told(self.0.place(map, values, x, y, q))
     }
 
-    fn run(self, map: &[i16], direction: u16, count: u16) -> (u32, Self) {
-        told(self.0.run(map, direction, count))
+    fn run(self, map: &[i16], values: &[u16], direction: u16, count: u16) -> (u32, Self) {
+        told(self.0.run(map, values, direction, count))
     }
 
     fn lift(self) -> (u32, Self) {

@@ -3,8 +3,11 @@
 use crate::board::{Board, Left};
 use crate::calls::{Call, Slices};
 use model::calls::Calls;
+use model::chamfer;
 use model::random::Random;
-use model::session::{scratch_need, Fields};
+use model::scans::UNLABELLED;
+use model::session::{kind, scratch_need, Fields, Kind};
+use model::skeleton::size;
 use std::collections::BTreeMap;
 use std::fmt;
 
@@ -13,7 +16,7 @@ use std::fmt;
 pub enum Check {
     /// Compared with the model: answer, session and every slice.
     Model,
-    /// Held against the plain board. This is for lists in which nothing but the calls touches session, sheet and map.
+    /// Held against the plain board. This is for lists in which nothing but the calls touches session, sheet and maps.
     Board,
     /// Both.
     Both,
@@ -24,8 +27,10 @@ pub struct List<S> {
     session: S,
     /// The list's sheet.
     pub sheet: Vec<u8>,
-    /// The list's map.
+    /// The list's pairs.
     pub map: Vec<i16>,
+    /// The list's values.
+    pub values: Vec<u16>,
     check: Check,
     board: Board,
     made: Vec<(Call, u32)>,
@@ -46,10 +51,10 @@ impl<S: Calls> fmt::Debug for Story<'_, S> {
     fn fmt(&self, f: &mut fmt::Formatter<'_>) -> fmt::Result {
         let Story { list, call, slices } = self;
         writeln!(f, "{call:?} in the list of seed {}, with {:?}", list.seed, list.session())?;
-        let Slices { sheet, map, scratch, marks, out } = slices;
-        writeln!(f, "lengths {:?}", [sheet.len(), map.len(), scratch.len(), marks.len(), out.len()])?;
+        let Slices { sheet, map, values, scratch, marks, out } = slices;
+        writeln!(f, "lengths {:?}", [sheet.len(), map.len(), values.len(), scratch.len(), marks.len(), out.len()])?;
         if sheet.len() <= 200 {
-            writeln!(f, "sheet {sheet:?}\nmap {map:?}\nmarks {marks:?}")?;
+            writeln!(f, "sheet {sheet:?}\nmap {map:?}\nvalues {values:?}\nmarks {marks:?}")?;
         }
         list.made.iter().try_for_each(|(call, answer)| writeln!(f, "{answer} {call:?}"))
     }
@@ -63,11 +68,12 @@ fn same<T: PartialEq + fmt::Debug>(what: &str, found: &[T], expected: &[T], stor
 }
 
 impl<S: Calls> List<S> {
-    /// A list that starts with a fresh session and a sheet and map of any length holding anything. The seed is for messages.
+    /// A list that starts with a fresh session and a sheet and maps of any length holding anything. The seed is for messages.
     pub fn new(check: Check, seed: u64, random: &mut Random) -> Self {
         let sheet = (0..random.between(0, 20)).map(|_| random.next() as u8).collect();
         let map = (0..random.between(0, 40)).map(|_| random.next() as i16).collect();
-        List { session: S::fresh(), sheet, map, check, board: Board::default(), made: Vec::new(), seed }
+        let values = (0..random.between(0, 20)).map(|_| random.next() as u16).collect();
+        List { session: S::fresh(), sheet, map, values, check, board: Board::default(), made: Vec::new(), seed }
     }
 
     /// What the session records.
@@ -80,16 +86,24 @@ impl<S: Calls> List<S> {
         self.session = S::from(fields);
     }
 
-    /// Slices for a call: the list's sheet and map, or to open a sheet others of the right lengths, and what else the call takes, of
+    /// The size of a pixel on the map that place and run read. None if it is unlabelled, or if the map ends before it.
+    pub fn size(&self, at: usize) -> Option<u64> {
+        match kind(self.session().engine) {
+            Kind::Pairs => self.map.get(2 * at..2 * at + 2).map(|way| [way[0], way[1]]).filter(|&way| way != UNLABELLED).map(size),
+            Kind::Values => self.values.get(at).filter(|&&value| value != chamfer::UNLABELLED).map(|&value| u64::from(value).pow(2)),
+        }
+    }
+
+    /// Slices for a call: the list's sheet and maps, or to open a sheet others of the right lengths, and what else the call takes, of
     /// lengths that fit. The others hold anything.
     pub fn slices(&self, call: Call, random: &mut Random) -> Slices {
-        let (sheet, map): (Vec<u8>, Vec<i16>) = match call {
-            Call::Open { w, h } => {
-                let pixels = usize::from(w) * usize::from(h);
-                ((0..pixels).map(|_| random.next() as u8).collect(), (0..2 * pixels).map(|_| random.next() as i16).collect())
-            }
-            _ => (self.sheet.clone(), self.map.clone()),
-        };
+        let (mut sheet, mut map, mut values) = (self.sheet.clone(), self.map.clone(), self.values.clone());
+        if let Call::Open { w, h } = call {
+            let pixels = usize::from(w) * usize::from(h);
+            sheet = (0..pixels).map(|_| random.next() as u8).collect();
+            map = (0..2 * pixels).map(|_| random.next() as i16).collect();
+            values = (0..pixels).map(|_| random.next() as u16).collect();
+        }
         let more = [0, 0, 1, random.between(0, 30)][random.below(4) as usize];
         let (numbers, bytes) = match call {
             _ if call.takes_scratch() => (self.scratch_need() + more, 0),
@@ -103,6 +117,7 @@ impl<S: Calls> List<S> {
             out: (0..bytes).map(|_| random.next() as u8).collect(),
             sheet,
             map,
+            values,
         }
     }
 
@@ -118,10 +133,11 @@ impl<S: Calls> List<S> {
     }
 
     /// Makes a call with these slices, checks it, and returns its answer and what the slices hold afterwards. If it is done the sheet and
-    /// the map are the list's from then on; otherwise the former stay, unless they were lent themselves and so hold what the call left
+    /// the maps are the list's from then on; otherwise the former stay, unless they were lent themselves and so hold what the call left
     /// there.
     pub fn lend(&mut self, call: Call, slices: Slices, random: &mut Random) -> (u32, Slices) {
-        let own = !matches!(call, Call::Open { .. }) && slices.sheet == self.sheet && slices.map == self.map;
+        let same = slices.sheet == self.sheet && slices.map == self.map && slices.values == self.values;
+        let own = !matches!(call, Call::Open { .. }) && same;
         let mut after = slices.clone();
         let story = Story { list: self, call, slices: &slices };
         let (answer, session) = call.make_within(self.session, &mut after, random, &story);
@@ -129,16 +145,16 @@ impl<S: Calls> List<S> {
             self.compare(&story, (answer, session.into()), &after);
             self.compare_row(&story, random);
         }
-        if self.check != Check::Model {
-            let mut board = std::mem::take(&mut self.board);
-            let story = Story { list: self, call, slices: &slices };
-            let (sheet, map) = if own || answer == 0 { (&after.sheet, &after.map) } else { (&self.sheet, &self.map) };
-            board.feed(call, answer, &Left { session: &session.into(), sheet, map }, &story);
-            self.board = board;
-        }
         if own || answer == 0 {
             self.sheet.clone_from(&after.sheet);
             self.map.clone_from(&after.map);
+            self.values.clone_from(&after.values);
+        }
+        if self.check != Check::Model {
+            let mut board = std::mem::take(&mut self.board);
+            let left = Left { session: &session.into(), sheet: &self.sheet, map: &self.map, values: &self.values };
+            board.feed(call, answer, &left, &Story { list: self, call, slices: &slices });
+            self.board = board;
         }
         self.session = session;
         self.made.push((call, answer));
@@ -151,6 +167,7 @@ impl<S: Calls> List<S> {
         assert_eq!(found, story.call.make(self.session(), expected.lend()), "{story:?}");
         same("sheet", &after.sheet, &expected.sheet, story);
         same("map", &after.map, &expected.map, story);
+        same("values", &after.values, &expected.values, story);
         same("scratch", &after.scratch, &expected.scratch, story);
         same("marks", &after.marks, &expected.marks, story);
         same("output", &after.out, &expected.out, story);

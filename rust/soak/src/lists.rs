@@ -6,7 +6,6 @@ use model::boards;
 use model::calls::Calls;
 use model::random::Random;
 use model::session::Fields;
-use model::skeleton::size;
 
 /// Makes a number of random lists, half of them tampered with between the calls and half not, and counts the calls by their answers. Each
 /// list has a seed of its own, drawn from this one, which a failure names.
@@ -21,12 +20,12 @@ pub fn make<S: Calls>(seed: u64, lists: usize, answers: &mut Answers) {
     }
 }
 
-/// A list in which nothing but the calls touches session, sheet and map.
+/// A list in which nothing but the calls touches session, sheet and maps.
 pub fn untouched<S: Calls>(check: Check, seed: u64, answers: &mut Answers) {
     list::<S>(check, false, seed, answers);
 }
 
-/// A list of calls. If it is tampered with, session, sheet and map are changed between the calls now and then, and slices of wrong lengths
+/// A list of calls. If it is tampered with, session, sheet and maps are changed between the calls now and then, and slices of wrong lengths
 /// are lent.
 fn list<S: Calls>(check: Check, tampered: bool, seed: u64, answers: &mut Answers) {
     let mut random = Random::new(seed);
@@ -44,7 +43,7 @@ fn list<S: Calls>(check: Check, tampered: bool, seed: u64, answers: &mut Answers
         let (answer, _) = list.lend(call, slices, &mut random);
         if let Call::Open { w, h } = call {
             if answer == 0 && random.below(3) == 0 {
-                planned.push(Call::Build { engine: 2 + random.below(2) as u16 });
+                planned.push(Call::Build { engine: random.between(2, 6) as u16 });
                 let arrow = boards::arrow(w.into(), h.into(), &mut random);
                 planned.extend(arrow.copper().into_iter().map(|(x, y)| Call::Paint { x, y, w: 1, h: 1 }));
             }
@@ -76,7 +75,7 @@ fn any_call<S: Calls>(list: &List<S>, random: &mut Random) -> Call {
             let [x, y, w, h] = rectangle(session, 5, random);
             Call::Erase { x, y, w, h }
         }
-        3 => Call::Build { engine: seldom(12, &[0, 4, 5, 256, 257, 258, 65_535], 1 + random.below(3), random) as u16 },
+        3 => Call::Build { engine: seldom(12, &[0, 7, 8, 256, 257, 260, 65_535], any_engine(random), random) as u16 },
         4 => place(list, random),
         5 => run(session, random),
         6 => Call::Lift,
@@ -85,6 +84,11 @@ fn any_call<S: Calls>(list: &List<S>, random: &mut Random) -> Call {
         9 => Call::Skeleton,
         _ => Call::Rebuild,
     }
+}
+
+/// One of the engines, exact more often: skeleton and rebuild need it.
+fn any_engine(random: &mut Random) -> u64 {
+    [1, 1, 1, 2, 3, 4, 5, 6][random.below(8) as usize]
 }
 
 /// The usual number, or once in so many times one of the odd ones.
@@ -141,12 +145,11 @@ fn place<S: Calls>(list: &List<S>, random: &mut Random) -> Call {
         seldom(30, &[side.into(), 2_047, 2_048, 65_535], usual, random) as u16
     };
     let (mut x, mut y) = (coordinate(session.width, random), coordinate(session.height, random));
-    if session.engine > 1 && random.below(4) == 0 {
+    if [2, 3].contains(&session.engine) && random.below(4) == 0 {
         (x, y) = missed(list, random).unwrap_or((x, y));
     }
-    let at = 2 * (usize::from(y) * usize::from(session.width) + usize::from(x));
-    let size = list.map.get(at..at + 2).map_or(0, |way| size([way[0], way[1]]));
-    let edge = [size, 144 * size / 169, size / 2][random.below(3) as usize];
+    let size = list.size(usize::from(y) * usize::from(session.width) + usize::from(x)).unwrap_or(0);
+    let edge = [size, 144 * size / 169, size / 2, size / 10][random.below(4) as usize];
     let usual = if random.below(2) == 0 { (edge + 1).saturating_sub(random.below(3)).min(4_194_304) } else { random.below(6) };
     Call::Place { x, y, q: seldom(20, &[4_194_303, 4_194_304, 4_194_305, 4_294_967_295], usual, random) as u32 }
 }
@@ -154,13 +157,11 @@ fn place<S: Calls>(list: &List<S>, random: &mut Random) -> Call {
 /// A pixel at which the map has another size than the true squared distance, if there are any.
 fn missed<S: Calls>(list: &List<S>, random: &mut Random) -> Option<(u16, u16)> {
     let (w, h) = (usize::from(list.session().width), usize::from(list.session().height));
-    if list.sheet.len() != w * h || list.map.len() != 2 * w * h {
+    if list.sheet.len() != w * h {
         return None;
     }
     let distances = model::nearest::all(&list.sheet, w, h);
-    let ways = list.map.as_chunks::<2>().0.iter();
-    let wrong: Vec<usize> =
-        ways.zip(distances).enumerate().filter(|(_, (&way, e))| e.is_some_and(|e| e != size(way))).map(|(at, _)| at).collect();
+    let wrong: Vec<usize> = (0..w * h).filter(|&at| distances[at].is_some() && list.size(at) != distances[at]).collect();
     let at = wrong.get(random.below(wrong.len().max(1) as u64) as usize)?;
     Some(((at % w) as u16, (at / w) as u16))
 }
@@ -201,7 +202,7 @@ fn resize_q(random: &mut Random) -> u32 {
 }
 
 /// Slices for a call. Scratch has a length around what is needed or around a number a pixel now and then, so that it may be too short. To
-/// open a sheet some have a wrong length now and then, and always if the sheet would be large.
+/// open a sheet some have a wrong length now and then, and always if the sheet would be large; or the maps are the former ones.
 fn any_slices<S: Calls>(list: &List<S>, call: Call, random: &mut Random) -> Slices {
     let Call::Open { w, h } = call else {
         let mut slices = list.slices(call, random);
@@ -218,7 +219,14 @@ fn any_slices<S: Calls>(list: &List<S>, call: Call, random: &mut Random) -> Slic
         }
         return slices;
     }
-    list.slices(call, random)
+    let mut slices = list.slices(call, random);
+    match random.below(24) {
+        0 => slices.map.resize(random.between(0, 40), 7),
+        1 => slices.values.resize(random.between(0, 20), 7),
+        2 => (slices.map, slices.values) = (list.map.clone(), list.values.clone()),
+        _ => {}
+    }
+    slices
 }
 
 /// A length of scratch around what is needed, or around a number a pixel.
@@ -236,15 +244,16 @@ fn misfit(slices: &mut Slices, random: &mut Random) {
         3 => [0, right / 2, random.between(0, 40)][random.below(3) as usize],
         _ => right,
     };
-    let Slices { sheet, map, scratch, marks, out } = slices;
+    let Slices { sheet, map, values, scratch, marks, out } = slices;
     sheet.resize(length(sheet.len()), 1);
     map.resize(length(map.len()), 1);
+    values.resize(length(values.len()), 1);
     scratch.resize(length(scratch.len()), 1);
     marks.resize(length(marks.len()), 1);
     out.resize(length(out.len()), 1);
 }
 
-/// Changes session, map and sheet now and then.
+/// Changes session, maps and sheet now and then.
 fn tamper<S: Calls>(list: &mut List<S>, random: &mut Random) {
     if random.below(8) == 0 {
         let mut session = list.session();
@@ -253,6 +262,9 @@ fn tamper<S: Calls>(list: &mut List<S>, random: &mut Random) {
     }
     if random.below(6) == 0 {
         tamper_map(&mut list.map, random);
+    }
+    if random.below(6) == 0 {
+        tamper_values(&mut list.values, random);
     }
     if random.below(6) == 0 {
         tamper_sheet(&mut list.sheet, random);
@@ -271,13 +283,13 @@ fn tamper_session(session: &mut Fields, random: &mut Random) {
             1 => session.width = short(session, random),
             2 => session.height = short(session, random),
             3 => session.current ^= true,
-            4 => session.engine = short(session, random),
+            4 => session.engine = seldom(5, &[260, 65_535], random.below(9), random) as u16,
             5 => session.lowered ^= true,
             6 => session.x = short(session, random),
             7 => session.y = short(session, random),
             8 => session.q = number([0, 1, 4_194_304, 4_194_305, u32::MAX], random),
             9 => session.met ^= true,
-            _ => session.closest = number([0, 1, 2, 2_147_483_648, u32::MAX], random),
+            _ => session.closest = number([0, 1, 2_147_483_648, 4_294_705_156, u32::MAX], random),
         }
     }
 }
@@ -289,6 +301,17 @@ fn tamper_map(map: &mut [i16], random: &mut Random) {
     for (pixel, way) in map.as_chunks_mut::<2>().0.iter_mut().zip(some) {
         if random.below(times) == 0 {
             *pixel = way;
+        }
+    }
+}
+
+/// Writes any values into a map.
+fn tamper_values(values: &mut [u16], random: &mut Random) {
+    let some = model::maps::any_values(values.len(), random);
+    let times = 1 + random.below(4);
+    for (pixel, value) in values.iter_mut().zip(some) {
+        if random.below(times) == 0 {
+            *pixel = value;
         }
     }
 }
@@ -342,5 +365,30 @@ mod tests {
         }
         assert_eq!(found.len(), 3 * 2 * 3, "{found:?}");
         assert!(found.values().all(|&calls| calls > 100), "{found:?}");
+    }
+
+    /// By every engine each of place and run is often done, turned away by the gate, and lent a map of a wrong length.
+    #[test]
+    fn engines() {
+        let mut random = Random::new(2);
+        let mut found: BTreeMap<(u16, &'static str, u32), u32> = BTreeMap::new();
+        for seed in 0..6_000 {
+            let mut list = List::<Fields>::new(Check::Model, seed, &mut random);
+            for _ in 0..30 {
+                let (engine, call) = (list.session().engine, any_call(&list, &mut random));
+                let mut slices = any_slices(&list, call, &mut random);
+                if random.below(8) == 0 {
+                    misfit(&mut slices, &mut random);
+                }
+                let (answer, _) = list.lend(call, slices, &mut random);
+                *found.entry((engine, call.name(), answer)).or_default() += 1;
+            }
+        }
+        for engine in 1..=6 {
+            for (name, answer) in ["place", "run"].into_iter().flat_map(|name| [0, 12, 34].map(|answer| (name, answer))) {
+                let calls = found.get(&(engine, name, answer)).copied().unwrap_or(0);
+                assert!(calls > 50, "engine {engine}, {name}: {calls} with {answer}");
+            }
+        }
     }
 }

@@ -6,6 +6,7 @@ use native.Mathlib.Numerals.{add-one}
 use native.Mathlib.Omega.{arith}
 use Rattle.raster.specs.Loop.{anyBelow, ascend}
 use Rattle.raster.specs.LoopLaws.{up-turn}
+use Rattle.cutter.specs.Kinds.{maps}
 use Rattle.cutter.specs.Gates.{blocked}
 use Rattle.cutter.specs.Closest.{closestAlong}
 use Rattle.cutter.proofs.Walk.{on-the-way}
@@ -13,11 +14,12 @@ use Rattle.cutter.proofs.look_along.Statement.{statement}
 use Rattle.cutter.proofs.look_along.Tie as tie
 
 abbrev Inv-loop : tie.InvT-loop
-Inv-loop c map d count closest₀ blocked₀ i₀ closest stopped i =
-    (stopped ≡ blocked c map d i) × ((closest ≡ closestAlong c map d i closest₀) × (i ≤ count))
+Inv-loop c pairs values d count closest₀ blocked₀ i₀ closest stopped i =
+    let m = maps pairs values in
+    (stopped ≡ blocked c m d i) × ((closest ≡ closestAlong c m d i closest₀) × (i ≤ count))
 
 abbrev μ-loop : tie.MeasureT-loop
-μ-loop c map d count closest₀ blocked₀ i₀ closest stopped i = count - i
+μ-loop c pairs values d count closest₀ blocked₀ i₀ closest stopped i = count - i
 
 loop-holds : tie.Need-loop-holds Inv-loop μ-loop
 unfolding blocked anyBelow closestAlong ascend
@@ -35,7 +37,7 @@ loop-again c =
 returns : tie.Need-returns Inv-loop μ-loop
 returns c =
     let l = c .before in
-    let n : l .loop .i ≡ l .before .args .count = omega arith in
+    let n : l .loop .i ≡ l .before .before .args .count = omega arith in
     rw (← n) (l .loop .inv .0, l .loop .inv .1 .0)
 
 pub look-along-spec : {M : Type 1} → statement M
@@ -46,8 +48,8 @@ look-along-spec =
     μ-loop
     loop-holds
     (λ c. omega arith)
-    (λ c κs. let o = on-the-way (c .before .before .pre) (omega arith) in (o .known, (o .end .across, o .end .down)))
-    (λ c κs. let l = c .before .before in rw (c .cutter-after .ensures) (on-the-way {i = l .loop .i + 1} (l .before .pre) (omega arith) .end))
+    (λ c κs. let o = on-the-way (c .before .before .before .pre) (omega arith) in (o .known, (o .end .across, o .end .down)))
+    (λ c κs. let l = c .before .before in rw (c .cutter-after .ensures) (on-the-way {i = l .loop .i + 1} (l .before .before .pre) (omega arith) .end))
     (λ c. omega arith)
     (λ c. omega arith)
     loop-again

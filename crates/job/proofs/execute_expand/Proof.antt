@@ -2,6 +2,7 @@
 -- Assumes nothing.
 use Prim.Native.Nat.{_*_}
 use borrow.Author.Needs.{needs}
+use Rattle.cutter.specs.Kinds.{maps}
 use Rattle.job.specs.ExecuteLaws.{part-length, part-lent, part-behind, upto-take, upto-lent, upto-behind, expand-executed}
 use Rattle.job.proofs.execute_expand.Statement.{statement}
 use Rattle.job.proofs.execute_expand.Tie as tie
@@ -16,7 +17,7 @@ returns c =
     let sheet = p .expand .last .1 .0 in
     let map = p .expand .last .1 .1 .0 in
     let kept = p .expand .kept .1 .1 .0 in
-    expand-executed (a .s) (a .n) (a .sheet .now) (a .map .now) (a .scratch .now) _ (a .q) _ _ _
+    λ values. expand-executed (a .s) (a .n) (a .sheet .now) (maps (a .map .now) values) (a .scratch .now) _ (a .q) _ _ _
     (rw (← upto-take (2 * a .n) (a .map .now) numbers) (e .0))
     (e .1 .0)
     (part-behind (a .n) (a .sheet .now) sheet (p .expand .kept .1 .0))

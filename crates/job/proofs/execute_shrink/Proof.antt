@@ -2,6 +2,7 @@
 -- Assumes nothing.
 use Prim.Native.Nat.{_*_}
 use borrow.Author.Needs.{needs}
+use Rattle.cutter.specs.Kinds.{maps}
 use Rattle.job.specs.ExecuteLaws.{part-length, part-lent, part-behind, upto-take, upto-lent, upto-behind, shrink-executed}
 use Rattle.job.proofs.execute_shrink.Statement.{statement}
 use Rattle.job.proofs.execute_shrink.Tie as tie
@@ -16,7 +17,7 @@ returns c =
     let sheet = p .shrink .last .1 .0 in
     let map = p .shrink .last .1 .1 .0 in
     let kept = p .shrink .kept .1 .1 .0 in
-    shrink-executed (a .s) (a .n) (a .sheet .now) (a .map .now) (a .scratch .now) _ (a .q) _ _ _
+    λ values. shrink-executed (a .s) (a .n) (a .sheet .now) (maps (a .map .now) values) (a .scratch .now) _ (a .q) _ _ _
     (rw (← upto-take (2 * a .n) (a .map .now) numbers) (e .0))
     (e .1 .0)
     (part-behind (a .n) (a .sheet .now) sheet (p .shrink .kept .1 .0))

@@ -6,7 +6,7 @@
 use abi::session::{Reply, Session};
 use model::boards::Board;
 use model::random::Random;
-use model::session::scratch_need;
+use model::session::{kind, scratch_need, Kind};
 pub use soak::lent::Lent;
 
 /// How many numbers around a lent slice must stay as they are.
@@ -34,6 +34,20 @@ pub fn old(random: &mut Random) -> i16 {
     }
 }
 
+/// What the values may hold before.
+pub fn old_value(random: &mut Random) -> u16 {
+    match random.below(4) {
+        0 => 0,
+        1 => 65_535,
+        _ => random.next() as u16,
+    }
+}
+
+/// A length of a slice that a call does not look at: none, any, or the one that would fit.
+fn any_length(fitting: usize, random: &mut Random) -> usize {
+    [0, random.between(0, 9), fitting][random.below(3) as usize]
+}
+
 /// A scratch slice that holds anything. It is longer than it need be, more often than not, and now and then has a number a pixel.
 pub fn any_scratch(board: &Board, random: &mut Random) -> Lent<i16> {
     let need = scratch_need(board.w);
@@ -47,20 +61,55 @@ pub fn assert_cleared(scratch: &Lent<i16>, board: &Board) {
     assert!(cleared.iter().all(|&number| number == 0), "scratch is not 0: {board:?}");
 }
 
-/// The map that an engine builds of a board. It is lent the board's sheet, which it must not write, and a map that holds anything; the other
-/// engines than exact are lent a scratch of any length, which they must not write either.
-pub fn map_of(board: &Board, engine: u16, random: &mut Random) -> Vec<[i16; 2]> {
-    let pixels = board.sheet.len();
+/// The slices that build is lent besides the sheet.
+struct Built {
+    map: Lent<i16>,
+    values: Lent<u16>,
+    scratch: Lent<i16>,
+}
+
+impl Built {
+    /// Slices for an engine: those that it needs have lengths that fit, the others any lengths, and all hold anything.
+    fn lent(board: &Board, engine: u16, random: &mut Random) -> Built {
+        let pixels = board.sheet.len();
+        let lengths = match kind(engine) {
+            Kind::Pairs => [2 * pixels, any_length(pixels, random)],
+            Kind::Values => [any_length(2 * pixels, random), pixels],
+        };
+        Built {
+            map: Lent::new(lengths[0], margin(board), || old(random)),
+            values: Lent::new(lengths[1], margin(board), || old_value(random)),
+            scratch: if engine == 1 { any_scratch(board, random) } else { Lent::new(random.between(0, 9), 9, || old(random)) },
+        }
+    }
+}
+
+/// Builds the map of a board by an engine. The sheet must not be written, nor the other kind of map, nor scratch but by exact.
+fn build(board: &Board, engine: u16, random: &mut Random) -> Built {
     let mut sheet = Lent::around(&board.sheet, margin(board), || random.next() as u8);
-    let mut map = Lent::new(2 * pixels, margin(board), || old(random));
-    let mut scratch = if engine == 1 { any_scratch(board, random) } else { Lent::new(random.between(0, 9), 9, || old(random)) };
-    let reply = opened(board).build(sheet.slice(), map.slice(), scratch.slice(), engine);
+    let mut lent = Built::lent(board, engine, random);
+    let reply = opened(board).build(sheet.slice(), lent.map.slice(), lent.values.slice(), lent.scratch.slice(), engine);
     assert_eq!(reply, Reply { answer: 0, session: built(board, engine) }, "engine {engine}: {board:?}");
     sheet.written(0, "sheet", board);
-    if engine == 1 {
-        assert_cleared(&scratch, board);
+    if kind(engine) == Kind::Pairs {
+        lent.values.written(0, "values", board);
     } else {
-        scratch.written(0, "scratch", board);
+        lent.map.written(0, "map", board);
     }
-    map.written(2 * pixels, "map", board).as_chunks().0.to_vec()
+    if engine == 1 {
+        assert_cleared(&lent.scratch, board);
+    } else {
+        lent.scratch.written(0, "scratch", board);
+    }
+    lent
+}
+
+/// The pairs that engine 1, 2 or 3 builds of a board.
+pub fn map_of(board: &Board, engine: u16, random: &mut Random) -> Vec<[i16; 2]> {
+    build(board, engine, random).map.written(2 * board.sheet.len(), "map", board).as_chunks().0.to_vec()
+}
+
+/// The values that engine 4, 5 or 6 builds of a board.
+pub fn values_of(board: &Board, engine: u16, random: &mut Random) -> Vec<u16> {
+    build(board, engine, random).values.written(board.sheet.len(), "values", board).to_vec()
 }

@@ -8,16 +8,17 @@ use Rattle.session.proofs.Session.build.Tie as tie
 
 returns : tie.Need-returns
 returns c =
-    let t = c .before .before .before .before .before in
+    let m = c .before .before .before .before in
+    let t = m .before .before .before .before in
     let r = t .before in
     rw (r .replied .ensures .0, eq-eqb _ 0 (t .if1 .taken))
-    (r .before .before .build-answer .ensures, (r .replied .ensures .1 ∙ rw (eq-eqb _ 0 (t .if1 .taken)) (r .before .built-by .ensures), c .before .before .write-map .ensures))
+    (r .before .before .build-answer .ensures, (r .replied .ensures .1 ∙ rw (eq-eqb _ 0 (t .if1 .taken)) (r .before .built-by .ensures), m .write-map .ensures))
 
 returns-2 : tie.Need-returns-2
 returns-2 c =
     let r = c .before in
     rw (r .replied .ensures .0, ne-eqb _ 0 (c .if1 .left))
-    (r .before .before .build-answer .ensures, (r .replied .ensures .1 ∙ rw (ne-eqb _ 0 (c .if1 .left)) refl, (refl, refl)))
+    (r .before .before .build-answer .ensures, (r .replied .ensures .1 ∙ rw (ne-eqb _ 0 (c .if1 .left)) refl, (refl, (refl, refl))))
 
 pub build-spec : {M : Type 1} → statement M
 build-spec =
@@ -29,7 +30,9 @@ build-spec =
     (λ c κs. search needs)
     (λ c. search needs)
     (λ c. search needs)
+    (λ c. search needs)
     returns
+    (λ c. search needs)
     (λ c. search needs)
     (λ c. search needs)
     returns-2)

@@ -6,6 +6,7 @@ use borrow.Author.Needs.{needs}
 use borrow.Author.Tests.{ne-eqb}
 use Rattle.raster.specs.Refusal.{firstOf}
 use Rattle.raster.specs.RefusalLaws.{last-decides, earlier-decides}
+use Rattle.cutter.specs.Kinds.{maps}
 use Rattle.session.specs.Refusals.{placeRows, placeTable}
 use Rattle.session.proofs.Granted.{place-granted}
 use Rattle.session.proofs.Session.place.Statement.{statement}
@@ -22,8 +23,8 @@ look-at-requires c κs =
     rw (c .cutter-of .ensures) (record { held = g .held; across = g .across; down = g .down })
 
 -- past the first test the gate decides
-gate : (c : tie.After-gate-answer) → let a = c .before .before .before .before .before .before .args in
-    firstOf (placeTable (a .self) (a .map .now) (a .x) (a .y) (a .q)) ≡ c .gate-answer .result
+gate : (c : tie.After-gate-answer) → let a = c .before .before .before .before .before .before .before .args in
+    firstOf (placeTable (a .self) (maps (a .map .now) (a .values .now)) (a .x) (a .y) (a .q)) ≡ c .gate-answer .result
 unfolding placeTable placeRows
 gate c =
     let k = c .before .before in

@@ -8,6 +8,7 @@ use Rattle.raster.specs.Refusal.{firstOf}
 use Rattle.raster.specs.RefusalLaws.{last-decides, earlier-decides}
 use Rattle.cutter.specs.Gates.{OnSheet}
 use Rattle.session.specs.State.{ownCutter}
+use Rattle.cutter.specs.Kinds.{maps}
 use Rattle.session.specs.Refusals.{runRows, runTable}
 use Rattle.session.proofs.Granted.{run-granted}
 use Rattle.session.proofs.Session.run.Statement.{statement}
@@ -18,12 +19,12 @@ unfolding runTable
 returns c = (earlier-decides _ 34 _ (c .before .run-refusal .ensures) (c .if1 .taken), rw (ne-eqb _ 0 (c .if1 .taken)) refl)
 
 -- past the first test the run is on the sheet
-on : (c : tie.Else1) → let a = c .before .before .args in OnSheet (ownCutter (a .self)) (a .map .now) (a .direction) (a .count)
+on : (c : tie.Else1) → let a = c .before .before .before .args in OnSheet (ownCutter (a .self)) (maps (a .map .now) (a .values .now)) (a .direction) (a .count)
 on c = run-granted _ _ _ _ (c .before .run-refusal .ensures) (c .if1 .left) .on
 
 -- and the gates decide
-gates : (c : tie.After-gate-answer) → let a = c .before .before .before .before .before .before .args in
-    firstOf (runTable (a .self) (a .map .now) (a .direction) (a .count)) ≡ c .gate-answer .result
+gates : (c : tie.After-gate-answer) → let a = c .before .before .before .before .before .before .before .args in
+    firstOf (runTable (a .self) (maps (a .map .now) (a .values .now)) (a .direction) (a .count)) ≡ c .gate-answer .result
 unfolding runTable runRows
 gates c =
     let k = c .before .before in

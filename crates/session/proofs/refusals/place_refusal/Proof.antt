@@ -5,8 +5,9 @@ use mathlib.Core.Bool.{false, not}
 use borrow.Author.Needs.{needs}
 use borrow.Author.Tests.{lt-ltb, le-ltb}
 use Rattle.raster.specs.Refusal.{firstOf}
+use Rattle.cutter.specs.Kinds.{maps}
 use Rattle.session.specs.State.{active}
-use Rattle.session.specs.Refusals.{notMap, placeRows}
+use Rattle.session.specs.Refusals.{notMapBy, placeRows}
 use Rattle.session.proofs.refusals.place_refusal.Statement.{statement}
 use Rattle.session.proofs.refusals.place_refusal.Tie as tie
 
@@ -15,16 +16,16 @@ unfolding placeRows firstOf
 returns c = simp (rw (c .before .is-active .ensures) at (c .if1 .taken))
 
 -- past the first test
-fine : (c : tie.Else1) → not (active (c .before .before .args .s)) ≡ false
+fine : (c : tie.Else1) → not (active (c .before .before .before .args .s)) ≡ false
 fine c = rw (c .before .is-active .ensures) at (c .if1 .left)
 
 returns-2 : tie.Need-returns-2
 unfolding placeRows firstOf
-returns-2 c = simp (fine (c .before .before), rw (c .before .is-map .ensures) at (c .if2 .taken))
+returns-2 c = simp (fine (c .before .before), rw (c .before .is-map-by .ensures) at (c .if2 .taken))
 
 -- past the second
-sized : (c : tie.Else2) → let a = c .before .before .before .before .args in notMap (a .s) (a .map .now) ≡ false
-sized c = rw (c .before .is-map .ensures) at (c .if2 .left)
+sized : (c : tie.Else2) → let a = c .before .before .before .before .before .args in notMapBy (a .s .engine) (a .s) (maps (a .map .now) (a .values .now)) ≡ false
+sized c = rw (c .before .is-map-by .ensures) at (c .if2 .left)
 
 returns-3 : tie.Need-returns-3
 unfolding placeRows firstOf
