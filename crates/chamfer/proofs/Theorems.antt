@@ -21,7 +21,7 @@ use Rattle.raster.specs.Gate.{passes, NearBy}
 use Rattle.raster.specs.GateLaws.{passed-above, failed-within}
 use Rattle.chamfer.specs.Chamfer.{Weights, chamferDistance, noValue, leastBelow, given, value, chamferMap}
 use Rattle.chamfer.specs.ChamferLaws.{wide, turned, distance-small, value-top, value-under, value-over}
-use Rattle.chamfer.specs.Engines.{weights, sideWeight, cornerWeight, noValueAt, squareAt, gate, fraction}
+use Rattle.chamfer.specs.Engines.{weights, sideWeight, cornerWeight, noValueAt, squareAt, gate, fairFraction}
 use Rattle.chamfer.proofs.Weights.{allowed}
 
 -- ---- any two weights
@@ -42,20 +42,20 @@ least-found (suc n) f l = elim (decLe (f n) (leastBelow n f)) [
 
 module _ (a b : ℕ) (copper : Mask) (w h x y : ℕ) where
   -- some copper pixel gives the value
-  pub record Given : Type 0 where
+  pub record Giver : Type 0 where
     pub column : ℕ
     pub row : ℕ
     pub on-copper : Copper copper w h column row
     pub is : value a b copper w h x y ≡ chamferDistance a b (gap x column) (gap y row)
 
-  pub labelled-given : value a b copper w h x y < noValue → Given
+  pub labelled-giver : value a b copper w h x y < noValue → Giver
   unfolding value
-  labelled-given l =
+  labelled-giver l =
       let r = least-found h (λ j. leastBelow w (λ i. given a b copper w h x y i j)) l in
       let s = least-found w (λ i. given a b copper w h x y i (r .place)) (omega (arith, r .least)) in
       go (s .place) (r .place) (s .below) (r .below) (s .least ∙ r .least) (copper (s .place) (r .place)) refl
     where
-      go : (i j : ℕ) → i < w → j < h → given a b copper w h x y i j ≡ value a b copper w h x y → (t : Bool) → copper i j ≡ t → Given
+      go : (i j : ℕ) → i < w → j < h → given a b copper w h x y i j ≡ value a b copper w h x y → (t : Bool) → copper i j ≡ t → Giver
       go i j across down e true c = record { column = i; row = j; on-copper = record { across = across; down = down; is-copper = c }; is = sym (rw c at e) }
       go i j across down e false c = absurd (omega (arith, rw c at e))
 
@@ -108,10 +108,10 @@ distance-safe e l m u v =
     (by-offsets (λ s d. 1 * (d * d) ≤ 10 * s) 3 4 u v (λ m k. omega (arith, gap-square (2 * m) k)))
 
 -- M² + m² ≤ (M + m)², M² + m² ≤ 2M², 8(M² + m²) ≤ (3M + m)²
-distance-fair : (e : ℕ) → 4 ≤ e → e ≤ 6 → (u v q : ℕ) → gate e .den * (dist e u v * dist e u v) ≤ gate e .num * q → fraction e .den * (u * u + v * v) ≤ fraction e .num * q
+distance-fair : (e : ℕ) → 4 ≤ e → e ≤ 6 → (u v q : ℕ) → gate e .den * (dist e u v * dist e u v) ≤ gate e .num * q → fairFraction e .den * (u * u + v * v) ≤ fairFraction e .num * q
 unfolding weights
 distance-fair e l m u v q =
-    three-engines (λ k. gate k .den * (dist k u v * dist k u v) ≤ gate k .num * q → fraction k .den * (u * u + v * v) ≤ fraction k .num * q) e l m
+    three-engines (λ k. gate k .den * (dist k u v * dist k u v) ≤ gate k .num * q → fairFraction k .den * (u * u + v * v) ≤ fairFraction k .num * q) e l m
     (by-offsets (λ s d. 1 * (d * d) ≤ 2 * q → 1 * s ≤ 2 * q) 1 2 u v (λ m k h. omega arith))
     (by-offsets (λ s d. 1 * (d * d) ≤ 1 * q → 1 * s ≤ 2 * q) 1 1 u v (λ m k h. omega arith))
     (by-offsets (λ s d. 1 * (d * d) ≤ 10 * q → 4 * s ≤ 5 * q) 3 4 u v (λ m k h. omega arith))
@@ -145,9 +145,9 @@ module _ (copper : Mask) (w h e : ℕ) (first : 4 ≤ e) (last : e ≤ 6) where
         let bound = le-trans (mul-le-mul-left (gate e .den) (square-le under)) (distance-safe e first last (gap x i) (gap y j)) in
         passed-above (gate e) (c * c) q (apart x y i j) bound p
 
-    pub gate-fair : (q : ℕ) → noValueAt map (index w x y) ≡ false → passes (gate e) (squareAt map (index w x y)) q ≡ false → NearBy (fraction e) copper w h x y q
+    pub gate-fair : (q : ℕ) → noValueAt map (index w x y) ≡ false → passes (gate e) (squareAt map (index w x y)) q ≡ false → NearBy (fairFraction e) copper w h x y q
     unfolding apart
     gate-fair q labelled p =
         let l : c < noValue = omega (arith, eqb-false c noValue labelled, is-value, value-top (sideWeight e) (cornerWeight e) copper w h x y) in
-        let g = labelled-given _ _ copper w h x y (rw is-value at l) in
+        let g = labelled-giver _ _ copper w h x y (rw is-value at l) in
         record { column = g .column; row = g .row; copper = g .on-copper; within = distance-fair e first last (gap x (g .column)) (gap y (g .row)) q (rw (← g .is, ← is-value) (failed-within (gate e) (c * c) q p)) }

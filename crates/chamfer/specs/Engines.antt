@@ -31,5 +31,5 @@ abbrev pub gate : (engine : ℕ) → Gate
 gate e = cond (eqb e 4) (record { den = 1; num = 2 }) (cond (eqb e 5) (record { den = 1; num = 1 }) (record { den = 1; num = 10 }))
 
 -- where it fails, some copper is within this fraction of q: 2, 2, 5/4
-abbrev pub fraction : (engine : ℕ) → Gate
-fraction e = cond (eqb e 6) (record { den = 4; num = 5 }) (record { den = 1; num = 2 })
+abbrev pub fairFraction : (engine : ℕ) → Gate
+fairFraction e = cond (eqb e 6) (record { den = 4; num = 5 }) (record { den = 1; num = 2 })

@@ -2,12 +2,13 @@
 -- first place and the one after the last pixel are unlabelled.
 -- Assumes nothing.
 use mathlib.Core.Path.{_≡_}
-use mathlib.Core.Bool.{cond}
+use mathlib.Core.Bool.{Bool, cond}
 use mathlib.Core.List.{List}
-use Prim.Native.Nat.{ℕ, zero, suc, _+_, _*_, _≤_, _<_, min}
-use lib.Dec.{eqb}
+use Prim.Native.Nat.{ℕ, zero, suc, _+_, _*_, _-_, _≤_, _<_, min}
+use lib.Dec.{eqb, ltb}
 use lib.ListN.{length, getD}
 use Rattle.raster.specs.Distance.{gap, Copper}
+use Rattle.raster.specs.Loop.{anyBelow}
 use Rattle.raster.specs.Pixels.{Mask, index}
 use Rattle.raster.specs.Rows.{RowWritten}
 use Rattle.chamfer.specs.Chamfer.{chamferDistance, noValue, value}
@@ -29,7 +30,11 @@ unfoldable pub carried : (a : ℕ) → (ℕ → ℕ) → (t : ℕ) → ℕ
 carried a f zero = noValue
 carried a f (suc t) = min (f t) (carried a f t + a)
 
--- a sweep wrote the row that starts at base, f of it, and the same to the working row
+-- in a row of w values f 0, f 1, .. some pixel is above the candidate of its neighbour; the pairs of neighbours are `from` x and `to` x
+unfoldable pub steep : (a : ℕ) (f : ℕ → ℕ) (from to : ℕ → ℕ) (w : ℕ) → Bool
+steep a f from to w = anyBelow (w - 1) (λ x. ltb (candidate (f (from x)) a) (f (to x)))
+
+-- a sweep wrote the row that starts at base: pixel x has f x, in the map and in the working row
 pub record Swept (base w : ℕ) (f : ℕ → ℕ) (values row values′ row′ : List ℕ) : Type 0 where
   pub written : RowWritten base w f values values′
   pub kept : RowWritten 1 w f row row′

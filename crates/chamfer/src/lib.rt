@@ -2,7 +2,8 @@
 //
 // Two scans over the rows. Scan one goes down: a pixel takes the least candidate of the three beside it in the row above, then of its left neighbour. Scan two goes
 // up: of the three in the row below, then of its right neighbour. What a row takes from the row before is worked out for all its pixels first. No pixel waits for
-// another there, so the compiler works on eight at once, and only the sweep along the row goes pixel by pixel.
+// another there, so the compiler works on eight at once. Only the sweep along the row goes pixel by pixel, and only where it changes something: a test of all pixels,
+// again eight at once, tells that first.
 ghost use mathlib.Core.Path.{_≡_};
 ghost use Prim.Native.Nat.{_+_, _*_, _-_, _≤_, _<_, min};
 ghost use lib.ListN.{length, getD};
@@ -13,7 +14,7 @@ ghost use Rattle.raster.specs.Rows.{RowWritten};
 ghost use Rattle.raster.specs.Sheet.{copperOf};
 ghost use Rattle.chamfer.specs.Chamfer.{Weights, chamferMap};
 ghost use Rattle.chamfer.specs.Engines.{sideWeight, cornerWeight, noValueAt, squareAt, gate};
-ghost use Rattle.chamfer.specs.Rows.{candidate, fromThree, orCopper, carried, Swept, Halfway, Blank};
+ghost use Rattle.chamfer.specs.Rows.{candidate, fromThree, orCopper, carried, steep, Swept, Halfway, Blank};
 
 // ---- candidates
 
@@ -90,8 +91,46 @@ fn least(m: usize, n: usize) -> usize
     m
 }
 
-// Left to right, each pixel from its left neighbour; the row goes to the working row too.
-fn sweep_right(values: &mut [u16], row: &mut [u16], base: usize, w: usize, a: u16)
+// Some pixel is above what its left neighbour gives it.
+fn is_steep_right(values: &[u16], base: usize, w: usize, a: u16) -> bool
+    requires { ⌜ base + w ≤ length (now values) ⌝ }
+    ensures { λ r. ⌜ r ≡ steep a (λ x. getD (now (values .entry)) (base + x) 0) (λ x. x) (λ x. x + 1) w ⌝ }
+{
+    let mut steep = false;
+    let mut x = 0;
+    while x + 1 < w {
+        steep = (candidate(values[base + x], a) < values[base + (x + 1)]) | steep;
+        x += 1;
+    }
+    steep
+}
+
+// Some pixel is above what its right neighbour gives it.
+fn is_steep_left(values: &[u16], base: usize, w: usize, a: u16) -> bool
+    requires { ⌜ base + w ≤ length (now values) ⌝ }
+    ensures { λ r. ⌜ r ≡ steep a (λ x. getD (now (values .entry)) (base + x) 0) (λ x. x + 1) (λ x. x) w ⌝ }
+{
+    let mut steep = false;
+    let mut x = 0;
+    while x + 1 < w {
+        steep = (candidate(values[base + (x + 1)], a) < values[base + x]) | steep;
+        x += 1;
+    }
+    steep
+}
+
+// The row goes to the working row as it is.
+fn keep_row(values: &[u16], row: &mut [u16], base: usize, w: usize)
+    requires { ⌜ (base + w ≤ length (now values)) × (w + 2 ≤ length (now row)) ⌝ }
+    ensures { λ _. ⌜ RowWritten 1 w (λ x. getD (now (values .entry)) (base + x) 0) (now (row .entry)) (now (row .exit)) ⌝ }
+{
+    for x in 0..w {
+        row[1 + x] = values[base + x];
+    }
+}
+
+// Left to right, each pixel from its left neighbour, one after another; the row goes to the working row too.
+fn carry_right(values: &mut [u16], row: &mut [u16], base: usize, w: usize, a: u16)
     requires { ⌜ (base + w ≤ length (now values)) × (w + 2 ≤ length (now row)) ⌝ }
     ensures { λ _. ⌜ Swept base w (λ x. carried a (λ t. getD (now (values .entry)) (base + t) 0) (x + 1))
         (now (values .entry)) (now (row .entry)) (now (values .exit)) (now (row .exit)) ⌝ }
@@ -104,8 +143,8 @@ fn sweep_right(values: &mut [u16], row: &mut [u16], base: usize, w: usize, a: u1
     }
 }
 
-// Right to left, each pixel from its right neighbour; the row goes to the working row too.
-fn sweep_left(values: &mut [u16], row: &mut [u16], base: usize, w: usize, a: u16)
+// Right to left, each pixel from its right neighbour, one after another; the row goes to the working row too.
+fn carry_left(values: &mut [u16], row: &mut [u16], base: usize, w: usize, a: u16)
     requires { ⌜ (base + w ≤ length (now values)) × (w + 2 ≤ length (now row)) ⌝ }
     ensures { λ _. ⌜ Swept base w (λ x. carried a (λ t. getD (now (values .entry)) (base + (w - 1 - t)) 0) (w - x))
         (now (values .entry)) (now (row .entry)) (now (values .exit)) (now (row .exit)) ⌝ }
@@ -118,6 +157,32 @@ fn sweep_left(values: &mut [u16], row: &mut [u16], base: usize, w: usize, a: u16
         values[base + x] = last as u16;
         row[1 + x] = last as u16;
     }
+}
+
+// The sweep to the right. It changes nothing in a row that is not steep.
+fn sweep_right(values: &mut [u16], row: &mut [u16], base: usize, w: usize, a: u16)
+    requires { ⌜ (base + w ≤ length (now values)) × (w + 2 ≤ length (now row)) ⌝ }
+    ensures { λ _. ⌜ Swept base w (λ x. carried a (λ t. getD (now (values .entry)) (base + t) 0) (x + 1))
+        (now (values .entry)) (now (row .entry)) (now (values .exit)) (now (row .exit)) ⌝ }
+{
+    if is_steep_right(values, base, w, a) {
+        carry_right(values, row, base, w, a);
+        return;
+    }
+    keep_row(values, row, base, w);
+}
+
+// The sweep to the left, likewise.
+fn sweep_left(values: &mut [u16], row: &mut [u16], base: usize, w: usize, a: u16)
+    requires { ⌜ (base + w ≤ length (now values)) × (w + 2 ≤ length (now row)) ⌝ }
+    ensures { λ _. ⌜ Swept base w (λ x. carried a (λ t. getD (now (values .entry)) (base + (w - 1 - t)) 0) (w - x))
+        (now (values .entry)) (now (row .entry)) (now (values .exit)) (now (row .exit)) ⌝ }
+{
+    if is_steep_left(values, base, w, a) {
+        carry_left(values, row, base, w, a);
+        return;
+    }
+    keep_row(values, row, base, w);
 }
 
 // ---- the scans: the working row has the row before, and nothing at first
@@ -198,17 +263,22 @@ pub fn square_at(values: &[u16], p: usize) -> u32
     c * c
 }
 
+// What an engine's gate multiplies q by.
+fn factor(engine: u16) -> usize
+    ensures { λ r. ⌜ (r ≡ gate engine .num) × (r ≤ 10) ⌝ }
+{
+    if engine == 4 {
+        return 2;
+    }
+    if engine == 5 {
+        return 1;
+    }
+    10
+}
+
 // A labelled pixel of size a passes a cutter of q.
 pub fn passes_gate(engine: u16, a: u32, q: u32) -> bool
     ensures { λ r. ⌜ r ≡ passes (gate engine) a q ⌝ }
 {
-    let size = a as usize;
-    let limit = q as usize;
-    if engine == 4 {
-        return 2 * limit < size;
-    }
-    if engine == 5 {
-        return limit < size;
-    }
-    10 * limit < size
+    factor(engine) * (q as usize) < (a as usize)
 }

@@ -14,7 +14,7 @@ use Rattle.raster.specs.Limits.{maxSide}
 use Rattle.raster.specs.Pixels.{Mask, index}
 use Rattle.raster.specs.Sheet.{copperOf}
 use Rattle.scan.proofs.Theorems as scan
-use Rattle.chamfer.specs.Engines.{fraction}
+use Rattle.chamfer.specs.Engines.{fairFraction}
 use Rattle.chamfer.proofs.Theorems as chamfer
 use Rattle.exact.proofs.Theorems as exact
 use Rattle.cutter.specs.Kinds.{Maps, byValues, unlabelledIn, sizeIn}
@@ -31,7 +31,7 @@ pub record EngineMap (s : Session) (sheet : List ℕ) (e : ℕ) (m : Maps) : Typ
 
 -- the fraction of q within which some copper lies where an engine's gate fails: for pairs that of the gate itself
 abbrev pub fractionOf : (engine : ℕ) → Gate
-fractionOf e = cond (byValues e) (fraction e) (gateOf e)
+fractionOf e = cond (byValues e) (fairFraction e) (gateOf e)
 
 module _ (s : Session) (wide : s .width ≤ maxSide) (tall : s .height ≤ maxSide) (sheet : List ℕ) (whole : length sheet ≡ s .height * s .width) where
   abbrev copper : Mask

@@ -2,7 +2,7 @@
 
 mod either;
 
-use either::{cut, every_set, on_either, told, unless};
+use either::{along_the_edge, cut, every_set, on_either, told, unless};
 use model::boards::{self, Board};
 use model::calls::Calls;
 use model::session::{scratch_need, Fields};
@@ -446,17 +446,10 @@ fn place_refusals<S: Calls>(tried: &Tried) {
     });
 }
 
-/// Along the upper edge there is copper at the last column.
 fn run_refusals<S: Calls>(tried: &Tried) {
     every_set(&[12, 17, 30, 32, 33, 34], |wrong| {
         let session = unless::<S>(wrong(30), Fields { lowered: !wrong(32), ..tried.by(3) });
-        let (direction, count) = match (wrong(33), wrong(34)) {
-            (false, false) => (0, 2),
-            (false, true) => (0, 3),
-            (true, false) => (6, 1),
-            (true, true) => (0, 4),
-        };
-        let count = if wrong(17) { 2_048 } else { count };
+        let (direction, count) = along_the_edge(wrong);
         session.run(cut(&mut tried.map.clone(), wrong(12)), &[], direction, count).0
     });
 }

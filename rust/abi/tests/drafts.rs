@@ -3,7 +3,7 @@
 
 mod either;
 
-use either::{cut, every_set, on_either, told, unless};
+use either::{along_the_edge, cut, every_set, on_either, told, unless};
 use model::boards::{self, Board};
 use model::calls::Calls;
 use model::session::{kind, scratch_need, Fields, Kind};
@@ -317,19 +317,13 @@ fn place_refusals<S: Calls>() {
     });
 }
 
-/// Along the upper edge there is copper at the last column. Without a current map the cutter is up, and the pairs are tested.
+/// Without a current map the cutter is up, and the pairs are tested.
 fn run_refusals<S: Calls>() {
     for engine in 4..=6 {
         let (session, values) = drafted::<S>(&boards::document_01(), engine);
         every_set(&[12, 17, 30, 32, 33, 34], |wrong| {
             let session = unless::<S>(wrong(30), Fields { lowered: !wrong(32), ..session });
-            let (direction, count) = match (wrong(33), wrong(34)) {
-                (false, false) => (0, 2),
-                (false, true) => (0, 3),
-                (true, false) => (6, 1),
-                (true, true) => (0, 4),
-            };
-            let count = if wrong(17) { 2_048 } else { count };
+            let (direction, count) = along_the_edge(wrong);
             session.run(&[], cut(&mut values.clone(), wrong(12)), direction, count).0
         });
     }

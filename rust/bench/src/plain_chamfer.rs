@@ -1,6 +1,6 @@
 //! The maps of engines 4 to 6 in plain safe Rust by the library's way: a scan down the rows and a scan up. Each pixel of a row takes the least
-//! candidate of the three beside it in the row before, and then a sweep carries the values along the row. The row before stands in a working
-//! row, with an unlabelled pixel at either end for what is off the sheet.
+//! candidate of the three beside it in the row before, and then a sweep carries the values along the row, unless a test of all pixels says that
+//! it would change none. The row before stands in a working row, with an unlabelled pixel at either end for what is off the sheet.
 
 use crate::plain_exact::SIDE;
 
@@ -20,7 +20,12 @@ pub fn chamfer(sheet: &[u8], values: &mut [u16], w: usize, h: usize, weights: [u
         for ((value, &byte), three) in row.iter_mut().zip(bytes).zip(above.windows(3)) {
             *value = if byte == 0 { from_three(three, weights) } else { 0 };
         }
-        sweep(row.iter_mut().zip(&mut above[1..=w]), side);
+        let steep = row.windows(2).fold(false, |steep, two| steep | (two[0].saturating_add(side) < two[1]));
+        if steep {
+            sweep(row.iter_mut().zip(&mut above[1..=w]), side);
+        } else {
+            above[1..=w].copy_from_slice(row);
+        }
     }
     let mut below = [UNLABELLED; SIDE + 2];
     let below = &mut below[..w + 2];
@@ -28,7 +33,12 @@ pub fn chamfer(sheet: &[u8], values: &mut [u16], w: usize, h: usize, weights: [u
         for (value, three) in row.iter_mut().zip(below.windows(3)) {
             *value = from_three(three, weights).min(*value);
         }
-        sweep(row.iter_mut().zip(&mut below[1..=w]).rev(), side);
+        let steep = row.windows(2).fold(false, |steep, two| steep | (two[1].saturating_add(side) < two[0]));
+        if steep {
+            sweep(row.iter_mut().zip(&mut below[1..=w]).rev(), side);
+        } else {
+            below[1..=w].copy_from_slice(row);
+        }
     }
 }
 

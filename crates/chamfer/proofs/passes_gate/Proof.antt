@@ -1,28 +1,33 @@
--- `chamfer::passes_gate` meets its contract: each arm is the gate of its engine.
+-- `chamfer::passes_gate` meets its contract: every gate takes the size itself.
 -- Assumes nothing.
-use mathlib.Core.Path.{_≡_}
+use mathlib.Core.Path.{_≡_, refl}
+use mathlib.Core.Bool.{Bool, true, false, cond}
 use Prim.Native.Nat.{ℕ, _*_}
+use native.Mathlib.Nat.{mul-le-mul-right}
 use native.Mathlib.Omega.{arith}
+use lib.Dec.{eqb}
 use borrow.Author.Needs.{needs}
-use borrow.Author.Tests.{eq-eqb, ne-eqb}
-use Rattle.raster.specs.Gate.{passes}
+use Rattle.raster.specs.Gate.{Gate, passes}
+use Rattle.chamfer.specs.Engines.{gate}
 use Rattle.chamfer.proofs.passes_gate.Statement.{statement}
 use Rattle.chamfer.proofs.passes_gate.Tie as tie
 
-once : (n : ℕ) → 1 * n ≡ n
-once n = omega arith
+whole : (e a : ℕ) → gate e .den * a ≡ a
+whole e a = go (eqb e 4) (eqb e 5)
+  where
+    go : (t u : Bool) → cond {A = Gate} t (record { den = 1; num = 2 }) (cond {A = Gate} u (record { den = 1; num = 1 }) (record { den = 1; num = 10 })) .den * a ≡ a
+    go true u = omega arith
+    go false true = omega arith
+    go false false = omega arith
 
 returns : tie.Need-returns
 unfolding passes
-returns c = let s = c .before .args in rw (eq-eqb _ 4 (c .if1 .taken), once (s .a))
-
-returns-2 : tie.Need-returns-2
-unfolding passes
-returns-2 c = let s = c .before .before .args in rw (ne-eqb _ 4 (c .before .if1 .left), eq-eqb _ 5 (c .if2 .taken), once (s .q), once (s .a))
-
-returns-3 : tie.Need-returns-3
-unfolding passes
-returns-3 c = let s = c .before .before .args in rw (ne-eqb _ 4 (c .before .if1 .left), ne-eqb _ 5 (c .if2 .left), once (s .a))
+returns c = let a = c .before .args in rw (c .factor .ensures .0, whole (a .engine) (a .a)) refl
 
 pub passes-gate-spec : {M : Type 1} → statement M
-passes-gate-spec = tie.close (tie.spec (λ c. search needs) returns returns-2 (λ c. search needs) returns-3)
+passes-gate-spec =
+    tie.close
+    (tie.spec
+    (λ c κs. search needs)
+    (λ c. omega (arith, mul-le-mul-right (c .before .args .q) (c .factor .ensures .1)))
+    returns)

@@ -48,3 +48,15 @@ pub fn cut<T>(slice: &mut [T], wrong: bool) -> &mut [T] {
 pub fn unless<S: Calls>(closed: bool, session: Fields) -> S {
     S::from(Fields { opened: !closed, ..session })
 }
+
+/// Direction and count of a run from the corner of document 01's board that has these things wrong about it: along the upper edge there is
+/// copper at the last column.
+pub fn along_the_edge(wrong: &dyn Fn(u32) -> bool) -> (u16, u16) {
+    let (direction, count) = match (wrong(33), wrong(34)) {
+        (false, false) => (0, 2),
+        (false, true) => (0, 3),
+        (true, false) => (6, 1),
+        (true, true) => (0, 4),
+    };
+    (direction, if wrong(17) { 2_048 } else { count })
+}
