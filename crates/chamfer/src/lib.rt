@@ -7,7 +7,6 @@
 ghost use mathlib.Core.Path.{_≡_};
 ghost use Prim.Native.Nat.{_+_, _*_, _-_, _≤_, _<_, min};
 ghost use lib.ListN.{length, getD};
-ghost use Rattle.raster.specs.Gate.{passes};
 ghost use Rattle.raster.specs.Limits.{maxSide};
 ghost use Rattle.raster.specs.Pixels.{Mask};
 ghost use Rattle.raster.specs.Rows.{RowWritten};
@@ -264,7 +263,7 @@ pub fn square_at(values: &[u16], p: usize) -> u32
 }
 
 // What an engine's gate multiplies q by.
-fn factor(engine: u16) -> usize
+pub fn factor(engine: u16) -> usize
     ensures { λ r. ⌜ (r ≡ gate engine .num) × (r ≤ 10) ⌝ }
 {
     if engine == 4 {
@@ -274,11 +273,4 @@ fn factor(engine: u16) -> usize
         return 1;
     }
     10
-}
-
-// A labelled pixel of size a passes a cutter of q.
-pub fn passes_gate(engine: u16, a: u32, q: u32) -> bool
-    ensures { λ r. ⌜ r ≡ passes (gate engine) a q ⌝ }
-{
-    factor(engine) * (q as usize) < (a as usize)
 }

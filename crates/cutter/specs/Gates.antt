@@ -13,6 +13,7 @@ use Rattle.scan.specs.Scan as scan
 use Rattle.chamfer.specs.Engines as chamfer
 use Rattle.exact.specs.Nearest as exact
 use Rattle.cutter.specs.declared.Cutter.{Cutter}
+use Rattle.cutter.specs.declared.Sight.{Sight}
 use Rattle.cutter.specs.Kinds.{Maps, byValues, hasPixels, unlabelledIn, sizeIn}
 use Rattle.cutter.specs.Directions.{columnAfter, rowAfter, walk}
 
@@ -46,7 +47,14 @@ cutterAfter d n c = record { width = c .width; height = c .height; engine = c .e
 unfoldable pub blocked : Cutter → Maps → (direction count : ℕ) → Bool
 blocked c m d n = anyBelow n (λ i. not (mayStand (cutterAfter d (i + 1) c) m))
 
--- ---- what the functions require
+-- ---- what the functions say to each other
+
+-- the kind of an engine's map, and its gate for q with the product of q worked out
+pub record IsSight (r : Sight) (engine q : ℕ) : Type 0 where
+  pub kind : r .values ≡ byValues engine
+  pub times : r .times ≡ gateOf engine .den
+  pub few : r .times ≤ 144
+  pub limit : r .limit ≡ gateOf engine .num * q
 
 -- a map of the sheet by the cutter's engine, and the cutter on it
 pub record On (c : Cutter) (m : Maps) : Type 0 where

@@ -1,12 +1,15 @@
 // The cutter (document 01, "Calls", place and run; document 02, C-11 and C-12): whether it may stand at a pixel of a map of either kind, where a run takes it,
 // and how near it comes to copper.
 ghost use mathlib.Core.Path.{_≡_};
-ghost use mathlib.Core.Bool.{true, not};
-ghost use Prim.Native.Nat.{_-_, _<_, _≤_};
-ghost use Rattle.raster.specs.Gate.{passes};
-ghost use Rattle.cutter.specs.Kinds.{maps, byValues, hasPixels, unlabelledIn, sizeIn};
+ghost use mathlib.Core.Bool.{true, false, not, cond};
+ghost use Prim.Native.Nat.{_-_, _*_, _<_, _≤_};
+ghost use lib.Dec.{ltb};
+ghost use lib.ListN.{length};
+ghost use Rattle.raster.specs.Map.{Inside, sizeAt, unlabelledAt};
+ghost use Rattle.chamfer.specs.Engines.{noValueAt, squareAt};
+ghost use Rattle.cutter.specs.Kinds.{maps, byValues};
 ghost use Rattle.cutter.specs.Directions.{stepRight, stepDown, placeAfter, leavesSide, columnAfter, rowAfter};
-ghost use Rattle.cutter.specs.Gates.{knownEngine, gateOf, On, mayStand, OnSheet, cutterAfter, leavesSheet, blocked};
+ghost use Rattle.cutter.specs.Gates.{knownEngine, gateOf, IsSight, On, mayStand, OnSheet, cutterAfter, leavesSheet, blocked};
 ghost use Rattle.cutter.specs.Closest.{nearer, closestAt, closestAlong};
 
 // A cutter of q at the pixel (x, y), over a map of width × height pixels that an engine built.
@@ -62,22 +65,56 @@ pub fn by_values(engine: u16) -> bool
     (4 <= engine) & (engine <= 6)
 }
 
-// A labelled pixel of size a passes a cutter of q.
-fn passes_gate(engine: u16, a: u32, q: u32) -> bool
-    ensures { λ r. ⌜ r ≡ passes (gateOf engine) a q ⌝ }
+// What its gate multiplies a size by.
+fn times_of(engine: u16) -> usize
+    ensures { λ r. ⌜ (r ≡ gateOf engine .den) × (r ≤ 144) ⌝ }
+{
+    if engine == 2 {
+        return 144;
+    }
+    1
+}
+
+// What its gate multiplies q by.
+fn factor_of(engine: u16) -> usize
+    ensures { λ r. ⌜ (r ≡ gateOf engine .num) × (r ≤ 169) ⌝ }
 {
     if by_values(engine) {
-        return chamfer::passes_gate(engine, a, q);
+        return chamfer::factor(engine);
     }
-    let size = a as usize;
-    let limit = q as usize;
     if engine == 1 {
-        return limit < size;
+        return 1;
     }
     if engine == 2 {
-        return 169 * limit < 144 * size;
+        return 169;
     }
-    2 * limit < size
+    2
+}
+
+// What a look at pixels has to know of an engine and of q, worked out once for all pixels of a run: the kind of map, and its gate, which a labelled pixel of size a
+// passes if `limit` is below `times` × a.
+struct Sight {
+    values: bool,
+    times: usize,
+    limit: usize,
+}
+
+fn sight_of(engine: u16, q: u32) -> Sight
+    ensures { λ r. ⌜ IsSight r engine q ⌝ }
+{
+    Sight {
+        values: by_values(engine),
+        times: times_of(engine),
+        limit: factor_of(engine) * (q as usize),
+    }
+}
+
+// A labelled pixel of size a passes.
+fn passes_gate(sight: Sight, a: u32) -> bool
+    requires { ⌜ sight .times ≤ 144 ⌝ }
+    ensures { λ r. ⌜ r ≡ ltb (sight .limit) (sight .times * a) ⌝ }
+{
+    sight.limit < sight.times * (a as usize)
 }
 
 // ---- what is met
@@ -92,13 +129,13 @@ fn nearer(closest: Closest, a: u32) -> Closest
     Closest { met: true, size: a }
 }
 
-// Pixel p of the engine's kind of map, which has n pixels.
-fn see(engine: u16, map: &[i16], values: &[u16], p: usize, n: usize) -> Seen
-    requires { ⌜ (hasPixels engine n (maps (now map) (now values)) ≡ true) × (p < n) ⌝ }
-    ensures unlabelled { λ r. ⌜ r .unlabelled ≡ unlabelledIn engine (maps (now (map .entry)) (now (values .entry))) p ⌝ }
-    ensures sized { λ r. ⌜ r .size ≡ sizeIn engine (maps (now (map .entry)) (now (values .entry))) p ⌝ }
+// Pixel p of the values, or of the pairs.
+fn see(valued: bool, map: &[i16], values: &[u16], p: usize) -> Seen
+    requires { ⌜ (valued ≡ true → p < length (now values)) × (valued ≡ false → Inside p (now map)) ⌝ }
+    ensures unlabelled { λ r. ⌜ r .unlabelled ≡ cond valued (noValueAt (now (values .entry)) p) (unlabelledAt (now (map .entry)) p) ⌝ }
+    ensures sized { λ r. ⌜ r .size ≡ cond valued (squareAt (now (values .entry)) p) (sizeAt (now (map .entry)) p) ⌝ }
 {
-    if by_values(engine) {
+    if valued {
         return Seen {
             unlabelled: chamfer::no_value_at(values, p),
             size: chamfer::square_at(values, p),
@@ -110,14 +147,14 @@ fn see(engine: u16, map: &[i16], values: &[u16], p: usize, n: usize) -> Seen
     }
 }
 
-// A look at the pixel under the cutter. An unlabelled one passes, and is no approach.
-pub fn look_at(c: Cutter, map: &[i16], values: &[u16], closest: Closest) -> Look
-    requires { ⌜ On c (maps (now map) (now values)) ⌝ }
+// A look at the pixel under the cutter, with the sight of its engine and q. An unlabelled pixel passes, and is no approach.
+fn look_with(c: Cutter, sight: Sight, map: &[i16], values: &[u16], closest: Closest) -> Look
+    requires { ⌜ On c (maps (now map) (now values)) × IsSight sight (c .engine) (c .q) ⌝ }
     ensures stopped { λ r. ⌜ r .blocked ≡ not (mayStand c (maps (now (map .entry)) (now (values .entry)))) ⌝ }
     ensures met { λ r. ⌜ r .closest ≡ closestAt c (maps (now (map .entry)) (now (values .entry))) closest ⌝ }
 {
     let p = (c.y as usize) * (c.width as usize) + (c.x as usize);
-    let seen = see(c.engine, map, values, p, raster::area(c.width, c.height));
+    let seen = see(sight.values, map, values, p);
     if seen.unlabelled {
         return Look {
             blocked: false,
@@ -125,9 +162,18 @@ pub fn look_at(c: Cutter, map: &[i16], values: &[u16], closest: Closest) -> Look
         };
     }
     Look {
-        blocked: !passes_gate(c.engine, seen.size, c.q),
+        blocked: !passes_gate(sight, seen.size),
         closest: nearer(closest, seen.size),
     }
+}
+
+// A look at that pixel alone.
+pub fn look_at(c: Cutter, map: &[i16], values: &[u16], closest: Closest) -> Look
+    requires { ⌜ On c (maps (now map) (now values)) ⌝ }
+    ensures stopped { λ r. ⌜ r .blocked ≡ not (mayStand c (maps (now (map .entry)) (now (values .entry)))) ⌝ }
+    ensures met { λ r. ⌜ r .closest ≡ closestAt c (maps (now (map .entry)) (now (values .entry))) closest ⌝ }
+{
+    look_with(c, sight_of(c.engine, c.q), map, values, closest)
 }
 
 // ---- the directions
@@ -231,9 +277,10 @@ pub fn look_along(
     ensures stopped { λ r. ⌜ r .blocked ≡ blocked c (maps (now (map .entry)) (now (values .entry))) d count ⌝ }
     ensures met { λ r. ⌜ r .closest ≡ closestAlong c (maps (now (map .entry)) (now (values .entry))) d count closest ⌝ }
 {
+    let sight = sight_of(c.engine, c.q);
     let mut blocked = false;
     for i in 0..count {
-        let look = look_at(cutter_after(c, d, i + 1), map, values, closest);
+        let look = look_with(cutter_after(c, d, i + 1), sight, map, values, closest);
         blocked = look.blocked | blocked;
         closest = look.closest;
     }
