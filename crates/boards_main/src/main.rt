@@ -1,9 +1,9 @@
-// Shows what the library makes of small sheets: the maps by both scans, of document 01's 4 × 4 board, of document 02's 2 × 2 board, where at pixel (1, 1)
-// two vectors have one size, and of sheets of one row and one column; the three maps of values of the 4 × 4 board; the exact maps of document 01's boards M1,
-// M5 and M6; both maps of a sheet of 14 × 8 whose three copper pixels stand like an arrow-head: there 8SED is wrong at pixel (0, 0), where it finds the size 170
-// and the true one is 169; sheets with the skeleton of their exact maps and the sheet rebuilt from it, which is the bare pixels again: M7, and a board of 24 × 9
-// with two pads, a track between them and a via; document 02's 3 × 3 board shrunk by 1, of which its middle is left, and by 0, which leaves it whole; and the
-// README's example.
+// Shows what the library makes of small sheets: the maps by both scans, of document 01's 4 × 4 board, of document 02's 2 × 2 board, where at pixel (1, 1) two
+// vectors have one size, and of sheets of one row and one column; the three maps of values of the 4 × 4 board; the exact maps of document 01's boards M1, M5
+// and M6; both maps of a sheet of 14 × 8 whose three copper pixels stand like an arrow-head: there 8SED is wrong at pixel (0, 0), where it finds the size 170
+// and the true one is 169; sheets with the skeleton of their exact maps and the sheet rebuilt from it, which is the bare pixels again: M7, and a board of 24
+// × 9 with two pads, a track between them and a via; document 02's 3 × 3 board shrunk by 1, of which its middle is left, and by 0, which leaves it whole; and
+// the README's example.
 ghost use mathlib.Core.Path.{_≡_};
 ghost use Prim.Native.Nat.{_+_, _*_, _≤_, _<_};
 ghost use lib.ListN.{length};

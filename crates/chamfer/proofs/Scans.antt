@@ -1,5 +1,6 @@
--- One row of each scan, from the row before to the end of its sweep. A value is never too small, since one step changes it by at most its weight. It is not too large
--- for copper either: scan one brings what copper gives that lies in the rows above up to the diagonal, or in the row to the left; scan two brings the rest.
+-- One row of each scan, from the row before to the end of its sweep. A value is never too small, since one step changes it by at most its weight. It is not
+-- too large for copper either: scan one brings what copper gives that lies in the rows above up to the diagonal, or in the row to the left; scan two brings
+-- the rest.
 -- Assumes nothing.
 use mathlib.Core.Path.{_≡_, refl, sym, subst, _∙_}
 use mathlib.Core.Bool.{Bool, true, false, not, cond, false≢true}

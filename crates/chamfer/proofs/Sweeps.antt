@@ -1,8 +1,8 @@
--- The sweeps along a row: what is handed on by one pixel more; a row that is written from its end, by no pixel, one pixel more before those that are written, and
--- all of it; and a row that is not steep.
+-- The sweeps along a row: what is handed on by one pixel more; a row that is written from its end, by no pixel, one pixel more before those that are written,
+-- and all of it; and a row that is not steep.
 -- Assumes nothing.
 use mathlib.Core.Path.{_≡_, refl, sym, ap, subst, _∙_}
-use mathlib.Core.Bool.{Bool, false, _||_}
+use mathlib.Core.Bool.{false}
 use mathlib.Core.List.{List}
 use Prim.Native.Nat.{ℕ, zero, suc, _+_, _-_, _≤_, _<_, min}
 use native.Mathlib.Decide.{ℕ-discrete}
@@ -12,7 +12,6 @@ use lib.ListN.{length, getD, set, length-set}
 use lib.Seq.{getD-set-same, getD-set-other}
 use lib.Dec.{ltb}
 use borrow.Author.Tests.{ltb-false}
-use Rattle.raster.specs.Loop.{anyBelow}
 use Rattle.raster.specs.LoopLaws.{any-false}
 use Rattle.raster.specs.Rows.{RowWritten}
 use Rattle.chamfer.specs.Chamfer.{noValue}
@@ -55,11 +54,6 @@ module _ {base w : ℕ} {f : ℕ → ℕ} {before : List ℕ} where
 
 -- ---- a row that is not steep
 
--- one pair of neighbours more
-pub any-next : (n : ℕ) (f : ℕ → Bool) → anyBelow (n + 1) f ≡ f n || anyBelow n f
-unfolding anyBelow
-any-next n f = rw (add-one n)
-
 -- the sweep changes nothing
 idle : (a : ℕ) (f : ℕ → ℕ) (n : ℕ) → f 0 ≤ noValue → ((t : ℕ) → t + 1 < n → f (t + 1) ≤ candidate (f t) a) → (t : ℕ) → t < n → carried a f (t + 1) ≡ f t
 unfolding carried
@@ -69,9 +63,9 @@ idle a f n top near (suc t) l =
     let g : suc t ≡ t + 1 = omega arith in
     rw (e, g) (omega (arith, idle a f n top near t (omega arith), near t (omega arith)))
 
-not-steep : (a : ℕ) (f : ℕ → ℕ) (from to : ℕ → ℕ) (w : ℕ) → steep a f from to w ≡ false → (x : ℕ) → x + 1 < w → f (to x) ≤ candidate (f (from x)) a
+not-steep : (a : ℕ) (f g : ℕ → ℕ) (w : ℕ) → steep a f g w ≡ false → (x : ℕ) → x + 1 < w → g x ≤ candidate (f x) a
 unfolding steep
-not-steep a f from to w e x l = ltb-false (candidate (f (from x)) a) (f (to x)) (any-false (w - 1) (λ z. ltb (candidate (f (from z)) a) (f (to z))) x e (omega arith))
+not-steep a f g w e x l = ltb-false (candidate (f x) a) (g x) (any-false (w - 1) (λ z. ltb (candidate (f z) a) (g z)) x e (omega arith))
 
 -- so a sweep that leaves the row as it is, and keeps it, is the sweep
 kept-idle : {base w : ℕ} {f : ℕ → ℕ} {values row row′ : List ℕ} → ((x : ℕ) → x < w → getD values (base + x) 0 ≡ f x)
@@ -82,26 +76,35 @@ kept-idle same kept = record {
 }
 
 module _ (a base w : ℕ) (values : List ℕ) (small : (p : ℕ) → getD values p 0 ≤ noValue) {row row′ : List ℕ} (kept : RowWritten 1 w (λ x. getD values (base + x) 0) row row′) where
-  pub idle-right : steep a (λ x. getD values (base + x) 0) (λ x. x) (λ x. x + 1) w ≡ false
-      → Swept base w (λ x. carried a (λ t. getD values (base + t) 0) (x + 1)) values row values row′
-  idle-right e =
-      kept-idle (λ x l. sym (idle a (λ t. getD values (base + t) 0) w (small (base + 0)) (not-steep a _ (λ z. z) (λ z. z + 1) w e) x l)) kept
+  abbrev at : ℕ → ℕ
+  at x = getD values (base + x) 0
 
-  pub idle-left : steep a (λ x. getD values (base + x) 0) (λ x. x + 1) (λ x. x) w ≡ false
+  abbrev after : ℕ → ℕ
+  after x = getD values (base + 1 + x) 0
+
+  -- the pixel after x
+  next : (x : ℕ) → after x ≡ at (x + 1)
+  next x = let e : base + 1 + x ≡ base + (x + 1) = omega arith in ap (λ (p : ℕ). getD values p 0) e
+
+  pub idle-right : steep a (λ x. getD values (base + x) 0) (λ x. getD values (base + 1 + x) 0) w ≡ false
+      → Swept base w (λ x. carried a (λ t. getD values (base + t) 0) (x + 1)) values row values row′
+  idle-right e = kept-idle (λ x l. sym (idle a at w (small _) (λ t m. rw (← next t) (not-steep a at after w e t m)) x l)) kept
+
+  pub idle-left : steep a (λ x. getD values (base + 1 + x) 0) (λ x. getD values (base + x) 0) w ≡ false
       → Swept base w (λ x. carried a (λ t. getD values (base + (w - 1 - t)) 0) (w - x)) values row values row′
   idle-left e = kept-idle same kept
     where
       back : ℕ → ℕ
-      back t = getD values (base + (w - 1 - t)) 0
+      back t = at (w - 1 - t)
 
       near : (t : ℕ) → t + 1 < w → back (t + 1) ≤ candidate (back t) a
       near t l =
           let z : w - 1 - (t + 1) + 1 ≡ w - 1 - t = omega arith in
-          subst (λ (k : ℕ). back (t + 1) ≤ candidate (getD values (base + k) 0) a) z
-          (not-steep a (λ x. getD values (base + x) 0) (λ x. x + 1) (λ x. x) w e (w - 1 - (t + 1)) (omega arith))
+          subst (λ (k : ℕ). back (t + 1) ≤ candidate (at k) a) z
+          (rw (← next (w - 1 - (t + 1))) (not-steep a after at w e (w - 1 - (t + 1)) (omega arith)))
 
-      same : (x : ℕ) → x < w → getD values (base + x) 0 ≡ carried a back (w - x)
+      same : (x : ℕ) → x < w → at x ≡ carried a back (w - x)
       same x l =
           let z : w - 1 - x + 1 ≡ w - x = omega arith in
-          let u : base + x ≡ base + (w - 1 - (w - 1 - x)) = omega arith in
-          ap (λ (k : ℕ). getD values k 0) u ∙ sym (subst (λ (k : ℕ). carried a back k ≡ back (w - 1 - x)) z (idle a back w (small _) near (w - 1 - x) (omega arith)))
+          let u : x ≡ w - 1 - (w - 1 - x) = omega arith in
+          ap at u ∙ sym (subst (λ (k : ℕ). carried a back k ≡ back (w - 1 - x)) z (idle a back w (small _) near (w - 1 - x) (omega arith)))

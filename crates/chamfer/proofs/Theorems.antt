@@ -1,6 +1,6 @@
 -- What the chamfer maps guarantee, on every sheet of up to 2,048 × 2,048 pixels, whatever its bytes: document 02, C-12. c is the value at a pixel.
---   for any two weights that are allowed: without copper every pixel is unlabelled; with copper every one is labelled, c is at most 65,504, it is what some copper
---   pixel gives, and no copper pixel gives less;
+--   for any two weights that are allowed: without copper every pixel is unlabelled; with copper every one is labelled, c is at most 65,504, it is what some
+--   copper pixel gives, and no copper pixel gives less;
 --   for the engines 4 to 6: the gate passes c² only where all copper is above q, and fails only where some is within the engine's fraction of q.
 -- Assumes nothing.
 use mathlib.Core.Path.{_≡_, refl, sym, subst, _∙_}

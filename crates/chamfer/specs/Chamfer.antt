@@ -1,5 +1,5 @@
--- The map of chamfer distances: document 02, C-12. One number a pixel, a value: the least, over the copper pixels of the sheet, of what a way there costs by side
--- steps of weight a and corner steps of weight b.
+-- The map of chamfer distances: document 02, C-12. One number a pixel, a value: the least, over the copper pixels of the sheet, of what a way there costs by
+-- side steps of weight a and corner steps of weight b.
 -- Assumes nothing.
 use mathlib.Core.Bool.{cond}
 use mathlib.Core.List.{List}

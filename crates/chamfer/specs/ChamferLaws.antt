@@ -1,5 +1,5 @@
--- The laws of chamfer distances and of values. With these weights the distance is a norm: one step changes it by at most its weight. A value is the greatest number
--- that is not above what any copper pixel gives.
+-- The laws of chamfer distances and of values. With these weights the distance is a norm: one step changes it by at most its weight. A value is the greatest
+-- number that is not above what any copper pixel gives.
 -- Assumes nothing.
 use mathlib.Core.Path.{_≡_, refl, ap, _∙_}
 use mathlib.Core.Bool.{Bool, true, false}

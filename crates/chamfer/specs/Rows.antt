@@ -30,9 +30,9 @@ unfoldable pub carried : (a : ℕ) → (ℕ → ℕ) → (t : ℕ) → ℕ
 carried a f zero = noValue
 carried a f (suc t) = min (f t) (carried a f t + a)
 
--- in a row of w values f 0, f 1, .. some pixel is above the candidate of its neighbour; the pairs of neighbours are `from` x and `to` x
-unfoldable pub steep : (a : ℕ) (f : ℕ → ℕ) (from to : ℕ → ℕ) (w : ℕ) → Bool
-steep a f from to w = anyBelow (w - 1) (λ x. ltb (candidate (f (from x)) a) (f (to x)))
+-- of w pixels some is above the candidate of its neighbour: g x above that of f x
+unfoldable pub steep : (a : ℕ) (f g : ℕ → ℕ) (w : ℕ) → Bool
+steep a f g w = anyBelow (w - 1) (λ x. ltb (candidate (f x) a) (g x))
 
 -- a sweep wrote the row that starts at base: pixel x has f x, in the map and in the working row
 pub record Swept (base w : ℕ) (f : ℕ → ℕ) (values row values′ row′ : List ℕ) : Type 0 where
@@ -42,8 +42,8 @@ pub record Swept (base w : ℕ) (f : ℕ → ℕ) (values row values′ row′ :
 -- ---- what the scans promise each other
 
 module _ (a b : ℕ) (copper : Mask) (w h : ℕ) where
-  -- v is not below the value of (x, y), and not above what the copper gives it that scan one has brought there: that of its own row to the left, and of the rows
-  -- above up to its diagonal to the right
+  -- v is not below the value of (x, y), and not above what the copper gives it that scan one has brought there: that of its own row to the left, and of the
+  -- rows above up to its diagonal to the right
   pub record Half (x y v : ℕ) : Type 0 where
     pub over : value a b copper w h x y ≤ v
     pub under : (i j : ℕ) → Copper copper w h i j → j ≤ y → i + j ≤ x + y → v ≤ chamferDistance a b (gap x i) (gap y j)

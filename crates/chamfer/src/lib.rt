@@ -1,9 +1,9 @@
 // The map of chamfer distances (document 02, C-12), for any two weights, and the weights and gates of the three engines that use it.
 //
-// Two scans over the rows. Scan one goes down: a pixel takes the least candidate of the three beside it in the row above, then of its left neighbour. Scan two goes
-// up: of the three in the row below, then of its right neighbour. What a row takes from the row before is worked out for all its pixels first. No pixel waits for
-// another there, so the compiler works on eight at once. Only the sweep along the row goes pixel by pixel, and only where it changes something: a test of all pixels,
-// again eight at once, tells that first.
+// Two scans over the rows. Scan one goes down: a pixel takes the least candidate of the three beside it in the row above, then of its left neighbour. Scan
+// two goes up: of the three in the row below, then of its right neighbour. What a row takes from the row before is worked out for all its pixels first. No
+// pixel waits for another there, so the compiler works on eight at once. Only the sweep along the row goes pixel by pixel, and only where it changes
+// something: a test of all pixels, again eight at once, tells that first.
 ghost use mathlib.Core.Path.{_≡_};
 ghost use Prim.Native.Nat.{_+_, _*_, _-_, _≤_, _<_, min};
 ghost use lib.ListN.{length, getD};
@@ -19,6 +19,16 @@ ghost use Rattle.chamfer.specs.Rows.{candidate, fromThree, orCopper, car
 
 // The smaller of two values.
 fn smaller(m: u16, n: u16) -> u16
+    ensures { λ r. ⌜ r ≡ min m n ⌝ }
+{
+    if n < m {
+        return n;
+    }
+    m
+}
+
+// The same of numbers that may pass 16 bits.
+fn smaller_wide(m: usize, n: usize) -> usize
     ensures { λ r. ⌜ r ≡ min m n ⌝ }
 {
     if n < m {
@@ -80,39 +90,16 @@ fn from_below(values: &mut [u16], row: &[u16], base: usize, w: usize, a: u16, b:
     }
 }
 
-// The smaller of two numbers.
-fn least(m: usize, n: usize) -> usize
-    ensures { λ r. ⌜ r ≡ min m n ⌝ }
-{
-    if n < m {
-        return n;
-    }
-    m
-}
-
-// Some pixel is above what its left neighbour gives it.
-fn is_steep_right(values: &[u16], base: usize, w: usize, a: u16) -> bool
-    requires { ⌜ base + w ≤ length (now values) ⌝ }
-    ensures { λ r. ⌜ r ≡ steep a (λ x. getD (now (values .entry)) (base + x) 0) (λ x. x) (λ x. x + 1) w ⌝ }
+// Some pixel of a row of w is above what its neighbour gives it. The pixels that take start at `to`, and their neighbours at `from`, side by side: there is
+// one less of either than the row has.
+fn is_steep(values: &[u16], from: usize, to: usize, w: usize, a: u16) -> bool
+    requires { ⌜ (from + w ≤ length (now values) + 1) × (to + w ≤ length (now values) + 1) ⌝ }
+    ensures { λ r. ⌜ r ≡ steep a (λ x. getD (now (values .entry)) (from + x) 0) (λ x. getD (now (values .entry)) (to + x) 0) w ⌝ }
 {
     let mut steep = false;
     let mut x = 0;
     while x + 1 < w {
-        steep = (candidate(values[base + x], a) < values[base + (x + 1)]) | steep;
-        x += 1;
-    }
-    steep
-}
-
-// Some pixel is above what its right neighbour gives it.
-fn is_steep_left(values: &[u16], base: usize, w: usize, a: u16) -> bool
-    requires { ⌜ base + w ≤ length (now values) ⌝ }
-    ensures { λ r. ⌜ r ≡ steep a (λ x. getD (now (values .entry)) (base + x) 0) (λ x. x + 1) (λ x. x) w ⌝ }
-{
-    let mut steep = false;
-    let mut x = 0;
-    while x + 1 < w {
-        steep = (candidate(values[base + (x + 1)], a) < values[base + x]) | steep;
+        steep = (candidate(values[from + x], a) < values[to + x]) | steep;
         x += 1;
     }
     steep
@@ -136,7 +123,7 @@ fn carry_right(values: &mut [u16], row: &mut [u16], base: usize, w: usize, a: u1
 {
     let mut last: usize = 65535;
     for x in 0..w {
-        last = least(values[base + x] as usize, last + a as usize);
+        last = smaller_wide(values[base + x] as usize, last + a as usize);
         values[base + x] = last as u16;
         row[1 + x] = last as u16;
     }
@@ -152,7 +139,7 @@ fn carry_left(values: &mut [u16], row: &mut [u16], base: usize, w: usize, a: u16
     let mut x = w;
     while 0 < x {
         x -= 1;
-        last = least(values[base + x] as usize, last + a as usize);
+        last = smaller_wide(values[base + x] as usize, last + a as usize);
         values[base + x] = last as u16;
         row[1 + x] = last as u16;
     }
@@ -164,7 +151,7 @@ fn sweep_right(values: &mut [u16], row: &mut [u16], base: usize, w: usize, a: u1
     ensures { λ _. ⌜ Swept base w (λ x. carried a (λ t. getD (now (values .entry)) (base + t) 0) (x + 1))
         (now (values .entry)) (now (row .entry)) (now (values .exit)) (now (row .exit)) ⌝ }
 {
-    if is_steep_right(values, base, w, a) {
+    if is_steep(values, base, base + 1, w, a) {
         carry_right(values, row, base, w, a);
         return;
     }
@@ -177,7 +164,7 @@ fn sweep_left(values: &mut [u16], row: &mut [u16], base: usize, w: usize, a: u16
     ensures { λ _. ⌜ Swept base w (λ x. carried a (λ t. getD (now (values .entry)) (base + (w - 1 - t)) 0) (w - x))
         (now (values .entry)) (now (row .entry)) (now (values .exit)) (now (row .exit)) ⌝ }
 {
-    if is_steep_left(values, base, w, a) {
+    if is_steep(values, base + 1, base, w, a) {
         carry_left(values, row, base, w, a);
         return;
     }

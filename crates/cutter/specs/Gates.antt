@@ -49,7 +49,7 @@ blocked c m d n = anyBelow n (λ i. not (mayStand (cutterAfter d (i + 1) c) m))
 
 -- ---- what the functions say to each other
 
--- the kind of an engine's map, and its gate for q with the product of q worked out
+-- what a look has to know of an engine and of q: the kind of map, what its gate multiplies a size by, and the product that it compares that with
 pub record IsSight (r : Sight) (engine q : ℕ) : Type 0 where
   pub kind : r .values ≡ byValues engine
   pub times : r .times ≡ gateOf engine .den

@@ -1,5 +1,5 @@
-// The cutter (document 01, "Calls", place and run; document 02, C-11 and C-12): whether it may stand at a pixel of a map of either kind, where a run takes it,
-// and how near it comes to copper.
+// The cutter (document 01, "Calls", place and run; document 02, C-11 and C-12): whether it may stand at a pixel of a map of either kind, where a run takes
+// it, and how near it comes to copper.
 ghost use mathlib.Core.Path.{_≡_};
 ghost use mathlib.Core.Bool.{true, false, not, cond};
 ghost use Prim.Native.Nat.{_-_, _*_, _<_, _≤_};
@@ -91,8 +91,8 @@ fn factor_of(engine: u16) -> usize
     2
 }
 
-// What a look at pixels has to know of an engine and of q, worked out once for all pixels of a run: the kind of map, and its gate, which a labelled pixel of size a
-// passes if `limit` is below `times` × a.
+// What a look at pixels has to know of an engine and of q, worked out once for all pixels of a run: the kind of map, and its gate, which a labelled pixel of
+// size a passes if `limit` is below `times` × a.
 struct Sight {
     values: bool,
     times: usize,

@@ -1,4 +1,5 @@
--- The plain board: document 01, "Lists of calls", and for the places visited document 02, C-11. It is fed each call's numbers and its answer, and nothing from session or slices.
+-- The plain board: document 01, "Lists of calls", and for the places visited document 02, C-11. It is fed each call's numbers and its answer, and nothing
+-- from session or slices.
 -- Assumes nothing.
 use mathlib.Core.Bool.{false, cond, not, _&&_, _||_}
 use mathlib.Core.List.{List, [], _∷_, _++_}

@@ -1,5 +1,5 @@
--- Running a job: document 01, "Job file" and "Lists of calls", and document 02, C-12. Which list of calls the records mean, what is printed of it and what it leaves in the lent
--- buffers. Answers and effects of a call are those of `session`.
+-- Running a job: document 01, "Job file" and "Lists of calls", and document 02, C-12. Which list of calls the records mean, what is printed of it and what it
+-- leaves in the lent buffers. Answers and effects of a call are those of `session`.
 -- Assumes nothing.
 use mathlib.Core.List.{List, [], _∷_, _++_}
 use mathlib.Core.Option.{some}

@@ -1,7 +1,8 @@
-// Running a job file (document 01, and document 02, C-12): its records, one after the other, through a session. The public call asks nothing of its caller: any bytes, any lengths.
+// Running a job file (document 01, and document 02, C-12): its records, one after the other, through a session. The public call asks nothing of its caller:
+// any bytes, any lengths.
 //
-// While a job runs, the open sheet has the first n bytes of the sheet buffer, the first 2 × n numbers of the map buffer and the first n of the values buffer; the
-// scratch buffer is lent whole.
+// While a job runs, the open sheet has the first n bytes of the sheet buffer, the first 2 × n numbers of the map buffer and the first n of the values buffer;
+// the scratch buffer is lent whole.
 ghost use mathlib.Core.Path.{_≡_};
 ghost use mathlib.Core.Bool.{true};
 ghost use mathlib.Core.List.{List};
@@ -256,9 +257,11 @@ fn run_all(
 ) -> usize
     requires { ⌜ (isJob (now job) ≡ true) × (9 * length (recordsOf (now job)) ≤ length (now out)) ⌝ }
     ensures text { λ r. ⌜ Put (now (out .entry)) 0
-        (reportOf (recordsOf (now (job .entry))) (startState (now (sheet .entry)) (maps (now (map .entry)) (now (values .entry))) (now (scratch .entry)))) r (now (out .exit)) ⌝ }
+        (reportOf (recordsOf (now (job .entry)))
+        (startState (now (sheet .entry)) (maps (now (map .entry)) (now (values .entry))) (now (scratch .entry)))) r (now (out .exit)) ⌝ }
     ensures buffers { λ r. ⌜ Buffers
-        (stateAfter (recordsOf (now (job .entry))) (startState (now (sheet .entry)) (maps (now (map .entry)) (now (values .entry))) (now (scratch .entry))))
+        (stateAfter (recordsOf (now (job .entry)))
+        (startState (now (sheet .entry)) (maps (now (map .entry)) (now (values .entry))) (now (scratch .entry))))
         (now (sheet .exit)) (maps (now (map .exit)) (now (values .exit))) (now (scratch .exit)) ⌝ }
 {
     let mut s = Session::fresh();
@@ -293,19 +296,19 @@ pub fn run(
     out: &mut [u8],
 ) -> Ran
     ensures answered { λ r. ⌜ r .answer ≡ ranAnswer (now (job .entry)) (now (out .entry)) ⌝ }
-    ensures counted { λ r. ⌜ r .written
-        ≡ length (printed (now (job .entry)) (startState (now (sheet .entry)) (maps (now (map .entry)) (now (values .entry))) (now (scratch .entry))) (now (out .entry))) ⌝ }
-    ensures out_left { λ r. ⌜ now (out .exit)
-        ≡ written (printed (now (job .entry)) (startState (now (sheet .entry)) (maps (now (map .entry)) (now (values .entry))) (now (scratch .entry))) (now (out .entry)))
+    ensures counted { λ r. ⌜ r .written ≡ length (printed (now (job .entry))
+        (startState (now (sheet .entry)) (maps (now (map .entry)) (now (values .entry))) (now (scratch .entry))) (now (out .entry))) ⌝ }
+    ensures out_left { λ r. ⌜ now (out .exit) ≡ written (printed (now (job .entry))
+        (startState (now (sheet .entry)) (maps (now (map .entry)) (now (values .entry))) (now (scratch .entry))) (now (out .entry)))
         (now (out .entry)) ⌝ }
-    ensures sheet_left { λ r. ⌜ now (sheet .exit)
-        ≡ sheetBuffer (stateLeft (now (job .entry)) (now (out .entry)) (startState (now (sheet .entry)) (maps (now (map .entry)) (now (values .entry))) (now (scratch .entry)))) ⌝ }
-    ensures map_left { λ r. ⌜ now (map .exit)
-        ≡ mapBuffers (stateLeft (now (job .entry)) (now (out .entry)) (startState (now (sheet .entry)) (maps (now (map .entry)) (now (values .entry))) (now (scratch .entry)))) .pairs ⌝ }
-    ensures values_left { λ r. ⌜ now (values .exit)
-        ≡ mapBuffers (stateLeft (now (job .entry)) (now (out .entry)) (startState (now (sheet .entry)) (maps (now (map .entry)) (now (values .entry))) (now (scratch .entry)))) .values ⌝ }
-    ensures scratch_left { λ r. ⌜ now (scratch .exit)
-        ≡ stateLeft (now (job .entry)) (now (out .entry)) (startState (now (sheet .entry)) (maps (now (map .entry)) (now (values .entry))) (now (scratch .entry))) .scratch ⌝ }
+    ensures sheet_left { λ r. ⌜ now (sheet .exit) ≡ sheetBuffer (stateLeft (now (job .entry)) (now (out .entry))
+        (startState (now (sheet .entry)) (maps (now (map .entry)) (now (values .entry))) (now (scratch .entry)))) ⌝ }
+    ensures map_left { λ r. ⌜ now (map .exit) ≡ mapBuffers (stateLeft (now (job .entry)) (now (out .entry))
+        (startState (now (sheet .entry)) (maps (now (map .entry)) (now (values .entry))) (now (scratch .entry)))) .pairs ⌝ }
+    ensures values_left { λ r. ⌜ now (values .exit) ≡ mapBuffers (stateLeft (now (job .entry)) (now (out .entry))
+        (startState (now (sheet .entry)) (maps (now (map .entry)) (now (values .entry))) (now (scratch .entry)))) .values ⌝ }
+    ensures scratch_left { λ r. ⌜ now (scratch .exit) ≡ stateLeft (now (job .entry)) (now (out .entry))
+        (startState (now (sheet .entry)) (maps (now (map .entry)) (now (values .entry))) (now (scratch .entry))) .scratch ⌝ }
 {
     let counted = records::split(job);
     if counted.answer != 0 {

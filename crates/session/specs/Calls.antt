@@ -1,4 +1,5 @@
--- What each call leaves: document 01, "Calls", and document 02, C-11 and C-12. A call that answers 0 does what is said here; any other leaves the session and every slice as they came.
+-- What each call leaves: document 01, "Calls", and document 02, C-11 and C-12. A call that answers 0 does what is said here; any other leaves the session and
+-- every slice as they came.
 -- Assumes nothing.
 use mathlib.Core.Bool.{Bool, cond, _&&_}
 use mathlib.Core.List.{List, []}

@@ -1,5 +1,5 @@
--- What build leaves in the two maps: document 01, "Engines", and document 02, C-12. Engine 1 is exact, 2 8SED, 3 4SED: they write pairs. Engine 4 is city block,
--- 5 chessboard, 6 chamfer: they write values. The other map stays as it was.
+-- What build leaves in the two maps: document 01, "Engines", and document 02, C-12. Engine 1 is exact, 2 8SED, 3 4SED: they write pairs. Engine 4 is city
+-- block, 5 chessboard, 6 chamfer: they write values. The other map stays as it was.
 -- Assumes nothing.
 use mathlib.Core.Bool.{cond}
 use mathlib.Core.List.{List}

@@ -1,5 +1,5 @@
--- The tables of refusals: document 01, its two tables of numbers and the order under them, and document 02, C-12. Each call has one table, 30 first, then ascending. Its answer is
--- the first number whose condition holds, or 0 (`firstOf`).
+-- The tables of refusals: document 01, its two tables of numbers and the order under them, and document 02, C-12. Each call has one table, 30 first, then
+-- ascending. Its answer is the first number whose condition holds, or 0 (`firstOf`).
 -- Assumes nothing.
 use mathlib.Core.Bool.{Bool, not, _&&_, _||_}
 use mathlib.Core.List.{List, [], _∷_, _++_}

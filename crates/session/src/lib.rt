@@ -1,5 +1,5 @@
-// The session (document 01, and document 02, C-11 and C-12): every call takes it by value and hands it back with an answer number, 0 if it was done. No call asks
-// anything of its caller: bad input gets its number, and a refusal changes nothing.
+// The session (document 01, and document 02, C-11 and C-12): every call takes it by value and hands it back with an answer number, 0 if it was done. No call
+// asks anything of its caller: bad input gets its number, and a refusal changes nothing.
 ghost use mathlib.Core.Path.{_≡_};
 ghost use mathlib.Core.Bool.{cond, _&&_};
 ghost use Prim.Native.Nat.{_<_, _≤_};

@@ -56,13 +56,14 @@ struct What {
 /// By how much expand and shrink are timed.
 const Q: u32 = 25;
 
-/// A build in plain Rust, and the tuned one.
+/// A build in plain Rust.
 fn plain_build(on: &mut Slices, engine: u16) -> Reply {
     plain_calls::build(on.session, on.sheet, on.map, on.values, on.scratch, engine, &PLAIN)
 }
 
-fn fused_build(on: &mut Slices, engine: u16) -> Reply {
-    plain_calls::build(on.session, on.sheet, on.map, on.values, on.scratch, engine, &FUSED)
+/// The tuned one.
+fn fused_build<const ENGINE: u16>(on: &mut Slices) -> Reply {
+    plain_calls::build(on.session, on.sheet, on.map, on.values, on.scratch, ENGINE, &FUSED)
 }
 
 /// The exact map of the sheet, which is then current.
@@ -105,61 +106,26 @@ fn whole(board: &Board) -> usize {
     board.sheet.len()
 }
 
+/// A build by one of the engines.
+const fn build<const ENGINE: u16>(name: &'static str, lent: [usize; 2], fused: Option<Call>) -> What {
+    What {
+        name,
+        lent,
+        pixels: whole,
+        ready: |_| {},
+        library: |on| on.session.build(on.sheet, on.map, on.values, on.scratch, ENGINE),
+        plain: |on| plain_build(on, ENGINE),
+        fused,
+    }
+}
+
 const WHATS: [What; 11] = [
-    What {
-        name: "exact",
-        lent: [5, 8],
-        pixels: whole,
-        ready: |_| {},
-        library: |on| on.session.build(on.sheet, on.map, on.values, on.scratch, 1),
-        plain: |on| plain_build(on, 1),
-        fused: Some(|on| fused_build(on, 1)),
-    },
-    What {
-        name: "8SED",
-        lent: [5, 0],
-        pixels: whole,
-        ready: |_| {},
-        library: |on| on.session.build(on.sheet, on.map, on.values, on.scratch, 2),
-        plain: |on| plain_build(on, 2),
-        fused: Some(|on| fused_build(on, 2)),
-    },
-    What {
-        name: "4SED",
-        lent: [5, 0],
-        pixels: whole,
-        ready: |_| {},
-        library: |on| on.session.build(on.sheet, on.map, on.values, on.scratch, 3),
-        plain: |on| plain_build(on, 3),
-        fused: Some(|on| fused_build(on, 3)),
-    },
-    What {
-        name: "city block",
-        lent: [3, 0],
-        pixels: whole,
-        ready: |_| {},
-        library: |on| on.session.build(on.sheet, on.map, on.values, on.scratch, 4),
-        plain: |on| plain_build(on, 4),
-        fused: None,
-    },
-    What {
-        name: "chessboard",
-        lent: [3, 0],
-        pixels: whole,
-        ready: |_| {},
-        library: |on| on.session.build(on.sheet, on.map, on.values, on.scratch, 5),
-        plain: |on| plain_build(on, 5),
-        fused: None,
-    },
-    What {
-        name: "chamfer",
-        lent: [3, 0],
-        pixels: whole,
-        ready: |_| {},
-        library: |on| on.session.build(on.sheet, on.map, on.values, on.scratch, 6),
-        plain: |on| plain_build(on, 6),
-        fused: None,
-    },
+    build::<1>("exact", [5, 8], Some(fused_build::<1>)),
+    build::<2>("8SED", [5, 0], Some(fused_build::<2>)),
+    build::<3>("4SED", [5, 0], Some(fused_build::<3>)),
+    build::<4>("city block", [3, 0], None),
+    build::<5>("chessboard", [3, 0], None),
+    build::<6>("chamfer", [3, 0], None),
     What {
         name: "expand",
         lent: [5, 8],

@@ -26,10 +26,10 @@ loop-holds c =
     ((end-none, end-none), (rw z, (omega arith, omega arith)))
 
 -- what is read fits, so what is written does
-read-small : (c : tie.After-least Inv-loop μ-loop) → c .least .result ≤ 65535
+read-small : (c : tie.After-smaller-wide Inv-loop μ-loop) → c .smaller-wide .result ≤ 65535
 read-small c =
     let l = c .before .before .before in
-    omega (arith, c .before .slice-known3 .given (l .before .before .before .args .base + (l .loop .x - 1)), c .least .ensures)
+    omega (arith, c .before .slice-known3 .given (l .before .before .before .args .base + (l .loop .x - 1)), c .smaller-wide .ensures)
 
 loop-again : tie.Need-loop-again Inv-loop μ-loop
 loop-again c =
@@ -41,7 +41,7 @@ loop-again c =
     let n : a .w - x + 1 ≡ a .w - (x - 1) = omega (arith, i .1 .1) in
     let own = i .0 .0 .low-kept (a .base + (x - 1)) (omega arith) ∙ ap (λ (k : ℕ). getD (a .values .now) k 0) p in
     let f = carried (a .a) (λ t. getD (a .values .now) (a .base + (a .w - 1 - t)) 0) in
-    let e : c .least .result ≡ f (a .w - (x - 1)) = rw (← n) (carried-next _ _ (a .w - x) own (i .1 .0) (c .least .ensures)) in (
+    let e : c .smaller-wide .result ≡ f (a .w - (x - 1)) = rw (← n) (carried-next _ _ (a .w - x) own (i .1 .0) (c .smaller-wide .ensures)) in (
       (end-more (i .0 .0) (omega arith) (omega (arith, i .1 .1)) (omega arith) e, end-more (i .0 .1) (omega arith) (omega (arith, i .1 .1)) (omega arith) e),
       (e, (read-small c, omega (arith, i .1 .1))),
     )

@@ -1,4 +1,5 @@
--- `chamfer::carry_right` meets its contract. The invariant: the first x pixels are written, in the map and in the working row, and `last` is what the sweep hands on.
+-- `chamfer::carry_right` meets its contract. The invariant: the first x pixels are written, in the map and in the working row, and `last` is what the sweep
+-- hands on.
 -- Assumes nothing.
 use mathlib.Core.Path.{_≡_, refl}
 use Prim.Native.Nat.{_+_, _-_, _≤_}
@@ -23,17 +24,17 @@ unfolding carried
 loop-holds c = (record { written = row-none; kept = row-none }, (refl, (omega arith, omega arith)))
 
 -- what is read fits, so what is written does
-read-small : (c : tie.After-least Inv-loop μ-loop) → c .least .result ≤ 65535
+read-small : (c : tie.After-smaller-wide Inv-loop μ-loop) → c .smaller-wide .result ≤ 65535
 read-small c =
     let l = c .before .before .before in
-    omega (arith, c .before .slice-known3 .given (l .before .before .before .args .base + l .loop .x), c .least .ensures)
+    omega (arith, c .before .slice-known3 .given (l .before .before .before .args .base + l .loop .x), c .smaller-wide .ensures)
 
 loop-again : tie.Need-loop-again Inv-loop μ-loop
 loop-again c =
     let l = c .before .before .before in
     let s = l .loop .inv .0 in
     let p = l .before .before .before .args .base + l .loop .x in
-    let e = carried-next _ _ (l .loop .x) (s .written .high-kept p (omega arith)) (l .loop .inv .1 .0) (c .least .ensures) in
+    let e = carried-next _ _ (l .loop .x) (s .written .high-kept p (omega arith)) (l .loop .inv .1 .0) (c .smaller-wide .ensures) in
     (record { written = row-more (s .written) (omega arith) e; kept = row-more (s .kept) (omega arith) e }, (e, (read-small c, omega arith)))
 
 returns : tie.Need-returns Inv-loop μ-loop

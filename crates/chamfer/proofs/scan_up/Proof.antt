@@ -1,5 +1,5 @@
--- `chamfer::scan_up` meets its contract. The invariant: the rows from y on have their values, of whatever sheet scan one left the map of, and the working row has
--- row y.
+-- `chamfer::scan_up` meets its contract. The invariant: the rows from y on have their values, of whatever sheet scan one left the map of, and the working row
+-- has row y.
 -- Assumes nothing.
 use mathlib.Core.Path.{_≡_, refl, _∙_}
 use Prim.Native.Nat.{_+_, _*_, _-_, _<_, _≤_}

@@ -15,13 +15,14 @@ returns-2 c =
     let v = s .before .before .before in
     let a = v .before .args in
     idle-left (a .a) (a .base) (a .w) (a .values .now) (λ p. omega (arith, v .slice-known .given p)) (k .keep-row .ensures)
-    (sym (s .is-steep-left .ensures) ∙ i .if1 .left)
+    (sym (s .is-steep .ensures) ∙ i .if1 .left)
 
 pub sweep-left-spec : {M : Type 1} → statement M
 sweep-left-spec =
     tie.close
     (tie.spec
-    (λ c κs. search needs)
+    (λ c. omega arith)
+    (λ c κs. (omega arith, omega arith))
     (λ c κs. search needs)
     (λ c. search needs)
     (λ c. search needs)
