@@ -1,5 +1,5 @@
--- A run is its single steps: the pixels that it tests are reached by one step of the table after another (`reached`), and what the code tests for 33 is
--- that one of these steps ends off the sheet (`leaves-sheet`).
+-- A run is its single steps: the pixels that it tests are reached by one step of the table after another (`reached`), none longer than a diagonal
+-- (`one-step`), and what the code tests for 33 is that one of these steps ends off the sheet (`leaves-sheet`).
 -- Assumes nothing.
 use mathlib.Core.Path.{_≡_, refl, sym, ap, _∙_}
 use mathlib.Core.Bool.{Bool, true, false, not, _&&_, _||_, or-true, true≢false}
@@ -10,6 +10,8 @@ use native.Mathlib.Omega.{arith}
 use lib.Dec.{ltb}
 use lib.IntN.{ℤ, pos, negsuc, _+ℤ_, natAbs}
 use borrow.Author.Tests.{ltb-false, leb-false, lt-ltb, le-ltb, le-leb, lt-leb}
+use Rattle.raster.specs.Distance.{gap, apart}
+use Rattle.raster.specs.DistanceLaws.{square-le}
 use Rattle.raster.specs.Loop.{anyBelow}
 use Rattle.raster.specs.LoopLaws.{any-false}
 use Rattle.raster.specs.Place.{inLine, isPixel}
@@ -63,7 +65,29 @@ next (pos (suc (suc m))) side n t k e = absurd (omega arith)
 next (negsuc zero) side n t k e = let l = ltb-false t (suc n) e in rw (le-ltb (t - n) 1 (omega arith)) (ap pos (omega arith))
 next (negsuc (suc m)) side n t k e = absurd (omega arith)
 
+-- and at most one place off
+beside : (z : ℤ) (t r : ℕ) → natAbs z ≤ 1 → pos t +ℤ z ≡ pos r → gap t r ≤ 1
+unfolding gap
+beside (pos zero) t r k e = omega (arith, ap natAbs e)
+beside (pos (suc zero)) t r k e = omega (arith, ap natAbs e)
+beside (pos (suc (suc m))) t r k e = absurd (omega arith)
+beside (negsuc zero) zero r k e = omega (arith, ap natAbs e)
+beside (negsuc zero) (suc t) r k e = omega (arith, ap natAbs (rw (le-ltb (suc t) 1 (omega arith)) at e))
+beside (negsuc (suc m)) t r k e = absurd (omega arith)
+
 -- ---- on the sheet
+
+-- a step from a pixel to a pixel is at most a diagonal one
+pub one-step : (d : ℕ) → d ≤ 7 → (i : ℕ) (p : ℤ × ℤ) (x y u v : ℕ) → walk d i p ≡ (pos x, pos y) → walk d (i + 1) p ≡ (pos u, pos v) → apart x y u v ≤ 2
+unfolding walk apart
+one-step d known i p x y u v from to =
+    let s = single d known in
+    let e = rw (add-one i, from) at to in
+    omega (
+      arith,
+      square-le (beside (stepRight d) x u (s .0) (ap (λ (t : ℤ × ℤ). t .0) e)),
+      square-le (beside (stepDown d) y v (s .1) (ap (λ (t : ℤ × ℤ). t .1) e)),
+    )
 
 either : (a b : Bool) → a || b ≡ not (not a && not b) || false
 either true b = refl

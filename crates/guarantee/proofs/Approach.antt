@@ -24,6 +24,10 @@ use Rattle.guarantee.specs.Claims.{Among, Least, none-met, least-met, Ha
 
 -- ---- the places visited
 
+-- one pixel, named twice
+pub same-pixel : (P : (x y : ℕ) → Type 0) {x y i j : ℕ} → _≡_ {A = ℤ × ℤ} (pos x, pos y) (pos i, pos j) → P x y → P i j
+same-pixel P e p = rw (← ap (λ (t : ℤ × ℤ). natAbs (t .0)) e, ← ap (λ (t : ℤ × ℤ). natAbs (t .1)) e) p
+
 -- nothing is visited yet
 pub no-approach : {e : ℕ} {m : Maps} {w h : ℕ} → Approach e m w h [] unmet
 no-approach = record { pixels = λ p. elim [ ]; least = none-met (λ x y. elim [ ]) }
@@ -36,7 +40,7 @@ one-none (least-met x y n v s least) = refl
 -- what holds of one more pixel and of those before it holds of all
 all-pixels : (P : (i j : ℕ) → Type 0) {x y : ℕ} (ps : List (ℤ × ℤ)) → P x y → ((i j : ℕ) → Among (pos i, pos j) ps → P i j)
     → (i j : ℕ) → Among (pos i, pos j) ((pos x, pos y) ∷ ps) → P i j
-all-pixels P ps p rest i j (inl e) = rw (← ap (λ (t : ℤ × ℤ). natAbs (t .0)) e, ← ap (λ (t : ℤ × ℤ). natAbs (t .1)) e) p
+all-pixels P ps p rest i j (inl e) = same-pixel P e p
 all-pixels P ps p rest i j (inr v) = rest i j v
 
 module _ (e : ℕ) (m : Maps) (w x y : ℕ) where

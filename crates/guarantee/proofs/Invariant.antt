@@ -8,7 +8,7 @@ use native.Mathlib.Omega.{arith}
 use lib.Dec.{eqb}
 use lib.ListN.{length}
 use borrow.Author.Tests.{ne-eqb}
-use Rattle.raster.specs.Distance.{apart, Copper, Clear}
+use Rattle.raster.specs.Distance.{apart, Copper, Clear, ClearBetween}
 use Rattle.raster.specs.Pixels.{index}
 use Rattle.raster.specs.Sheet.{copperOf}
 use Rattle.cutter.specs.Gates.{passesAt}
@@ -53,6 +53,10 @@ module _ {b : Board} {w : World} (inv : Inv b w) where
 
   pub above : (q x y : ℕ) → Clear (copperOf (w .sheet) (w .session .width)) (w .session .width) (w .session .height) x y q → Clear (b .copper) (b .width) (b .height) x y q
   above q x y clear i j c = clear i j (on-sheet c)
+
+  pub above-between : (q x y u v : ℕ) → ClearBetween (copperOf (w .sheet) (w .session .width)) (w .session .width) (w .session .height) x y u v q
+      → ClearBetween (b .copper) (b .width) (b .height) x y u v q
+  above-between q x y u v clear m n some i j c = clear m n some i j (on-sheet c)
 
   -- ---- the gate at a pixel of a current map
 

@@ -4,15 +4,16 @@ use mathlib.Core.Path.{_≡_, refl, sym, ap, subst, _∙_}
 use mathlib.Core.Bool.{Bool, true, false, not, cond, _&&_, _||_, true≢false}
 use mathlib.Core.List.{List, [], _∷_, _++_}
 use mathlib.Core.Option.{Option}
-use Prim.Native.Nat.{ℕ, zero, suc, _+_, _-_, _<_, _≤_}
+use Prim.Native.Nat.{ℕ, zero, suc, _+_, _<_, _≤_}
 use native.Mathlib.Numerals.{add-one}
 use native.Mathlib.Omega.{arith}
 use lib.Dec.{eqb, leb}
-use lib.IntN.{ℤ, pos, natAbs}
+use lib.IntN.{ℤ, pos}
 use borrow.Author.Tests.{eqb-true, ne-eqb, leb-true, not-true, not-false}
 use Rattle.raster.specs.Loop.{ascend}
 use Rattle.raster.specs.LoopLaws.{any-found, any-false}
-use Rattle.raster.specs.Distance.{Clear}
+use Rattle.raster.specs.Distance.{Clear, ClearBetween}
+use Rattle.raster.specs.DistanceLaws.{clear-between}
 use Rattle.raster.specs.Pixels.{Mask}
 use Rattle.raster.specs.Tests.{and-left}
 use Rattle.raster.specs.Sheet.{copperOf, bare, inRectangle}
@@ -23,7 +24,7 @@ use Rattle.cutter.specs.declared.Closest.{Closest}
 use Rattle.cutter.specs.Closest.{unmet, closestAt, closestAlong}
 use Rattle.cutter.specs.Directions.{walk, columnAfter, rowAfter}
 use Rattle.cutter.specs.Gates.{cutterAfter, mayStand, blocked}
-use Rattle.cutter.proofs.Walk.{reached, on-the-way}
+use Rattle.cutter.proofs.Walk.{one-step, reached, on-the-way}
 use Rattle.session.specs.declared.Session.{Session}
 use Rattle.session.specs.State.{sound, active, cutterUp, stale, builtBy, recorded, cutterOf, ownCutter}
 use Rattle.session.specs.Maps.{mapsBuilt}
@@ -32,12 +33,12 @@ use Rattle.session.specs.Calls.{filledBy, runSession}
 use Rattle.session.specs.Lists.{Lent, Call, opening, paint, erase, build, place, run, lift, expand, shrink, skeleton, rebuild, aside, World, world, lentTo, tableOf, answer, left, worldAfter}
 use Rattle.session.proofs.Granted.{open-granted, fill-granted, Building, build-granted, Placing, place-done, place-stopped, RunGranted, run-done, run-stopped, resize-granted}
 use Rattle.guarantee.specs.Board.{BoardCutter, up, down, Board, boardOf, recoppered, withCutter, cutterRun, toolPath, toolPathOf, done, feed}
-use Rattle.guarantee.specs.Claims.{Visits, at-place, at-step, Safe, Fair, Claim, SameCutter, Free, Approach}
+use Rattle.guarantee.specs.Claims.{Visits, at-place, at-step, Travels, by-step, Safe, SafeBetween, Fair, Claim, placeOf, SameCutter, Free, FreeRun, Approach}
 use Rattle.guarantee.proofs.Answers.{without, never}
 use Rattle.guarantee.proofs.Sound.{open-sound, stale-sound, built-sound, up-sound, down-sound}
 use Rattle.guarantee.proofs.Copper.{bare-copper, filled-copper, expanded-copper, shrunk-copper}
-use Rattle.guarantee.proofs.Approach.{no-approach, one-none, with-pixel}
-use Rattle.guarantee.proofs.Invariant.{CurrentMap, Inv, opens, above, passed-clear, failed-close}
+use Rattle.guarantee.proofs.Approach.{same-pixel, no-approach, one-none, with-pixel}
+use Rattle.guarantee.proofs.Invariant.{CurrentMap, Inv, opens, above, above-between, passed-clear, failed-close}
 
 pub record StepHolds (c : Call) (b : Board) (w : World) : Type 0 where
   pub claim : Claim c (answer c w) b
@@ -71,6 +72,17 @@ module _ (P : (x y q : ℕ) → Type 0) where
       → (x y q : ℕ) → Visits (run d n) k x y q → P x y q
   at-steps d n f x y q (at-step a b start r i v u low high at) = f start r refl i v u low high at
 
+-- a step that a call travels ends at a pixel that it visits
+ends-visited : (c : Call) (k : BoardCutter) (x y u v q : ℕ) → Travels c k x y u v q → Visits c k u v q
+ends-visited c k x y u v q (by-step d n start r i a b e g l from to) = at-step d n start r (i + 1) e g (omega arith) (omega arith) to
+
+-- a run travels its single steps
+along-steps : (P : (x y u v q : ℕ) → Type 0) (d n : ℕ) {k : BoardCutter}
+    → ((start : ℤ × ℤ) (q : ℕ) → k ≡ down start q → (i x y u v : ℕ) → i < n
+    → walk d i start ≡ (pos x, pos y) → walk d (i + 1) start ≡ (pos u, pos v) → P x y u v q)
+    → (x y u v q : ℕ) → Travels (run d n) k x y u v q → P x y u v q
+along-steps P d n f x y u v q (by-step a b start r i c e g h l from to) = f start r refl i c e g h l from to
+
 -- ---- a sheet is open, the cutter up
 
 abbrev upOver : (x y engine : ℕ) (current : Bool) → Session
@@ -103,9 +115,9 @@ module _ {b : Board} {w : World} (inv : Inv b w) where
       go true e = let z = eqb-true (answer c w) 0 e in rw z (when-done z)
       go false e = rw (refused c w e) inv
 
-  step-holds : (c : Call) → (answer c w ≡ 0 → Safe c b × Inv (done c b) (left c 0 w)) → (answer c w ≡ 34 → Fair c b) → StepHolds c b w
+  step-holds : (c : Call) → (answer c w ≡ 0 → (Safe c b × SafeBetween c b) × Inv (done c b) (left c 0 w)) → (answer c w ≡ 34 → Fair c b) → StepHolds c b w
   step-holds c when-done when-34 = record {
-    claim = record { safe = λ e. when-done e .0; fair = when-34 };
+    claim = record { safe = λ e. when-done e .0 .0; between = λ e. when-done e .0 .1; fair = when-34 };
     next = after-inv c (λ e. when-done e .1);
   }
 
@@ -113,7 +125,8 @@ module _ {b : Board} {w : World} (inv : Inv b w) where
   quiet-step : (c : Call) → without 34 (tableOf c w) ≡ true → ((x y q : ℕ) → Visits c (b .cutter) x y q → ⊥)
       → (answer c w ≡ 0 → Inv (done c b) (left c 0 w)) → StepHolds c b w
   quiet-step c no-34 still when-done =
-      step-holds c (λ e. ((λ x y q v. absurd (still x y q v)), when-done e)) (λ e. absurd (never 34 (tableOf c w) refl no-34 e))
+      step-holds c (λ e. (((λ x y q v. absurd (still x y q v)), (λ x y u v q t. absurd (still u v q (ends-visited c _ x y u v q t)))), when-done e))
+      (λ e. absurd (never 34 (tableOf c w) refl no-34 e))
 
   -- the session is stale, the board has the sheet's new copper
   stale-inv : active s ≡ true → (sheet : List ℕ) (m : Maps) (copper : Mask)
@@ -255,7 +268,7 @@ module _ {b : Board} {w : World} (inv : Inv b w) where
       let r = place-done s (w .maps) x y q e in
       let g = r .0 in
       let free = passed-clear inv (g .open-sheet) (g .current) x y q (g .across) (g .down) (r .1) in (
-        at-pixel (λ i j p. Clear (b .copper) (b .width) (b .height) i j p) x y q (above inv q x y free),
+        (at-pixel (λ i j p. Clear (b .copper) (b .width) (b .height) i j p) x y q (above inv q x y free), λ i j u v p. elim [ ]),
         cutter-inv true x y q _ (down (pos x, pos y) q) ((pos x, pos y) ∷ []) (refl, (refl, refl))
             (down-sound s (inv .fine) x y q _ (one-none (met g .least)) (g .current) (g .across) (g .down) (g .small)) (λ l. free) (met g),
       ))
@@ -272,32 +285,48 @@ module _ {b : Board} {w : World} (inv : Inv b w) where
       met : Placing s (w .maps) x y q → Approach (s .engine) (w .maps) (s .width) (s .height) ((pos x, pos y) ∷ []) (closestAt (cutterOf s x y q) (w .maps) unmet)
       met g = with-pixel (s .engine) (w .maps) (s .width) x y (g .across) (g .down) refl no-approach
 
+  -- the session's cutter is the board's
+  own : {start : ℤ × ℤ} {q : ℕ} → b .cutter ≡ down start q → SameCutter (down start q) s
+  own k = subst (λ (t : BoardCutter). SameCutter t s) k (inv .agree .cutter)
+
   module _ (d n : ℕ) where
     -- the cutter may stand where i steps end
     abbrev free : ℕ → Bool
     free i = mayStand (cutterAfter d i (ownCutter s)) (w .maps)
 
     -- single steps lead to the pixels that the code works out
-    steps-reach : RunGranted s (w .maps) d n → (i : ℕ) → i ≤ n → walk d i (pos (s .x), pos (s .y)) ≡ (pos (columnAfter d i (s .x)), pos (rowAfter d i (s .y)))
+    steps-reach : RunGranted s (w .maps) d n → (i : ℕ) → i ≤ n → walk d i (placeOf s) ≡ (pos (columnAfter d i (s .x)), pos (rowAfter d i (s .y)))
     steps-reach g i high = reached (ownCutter s) d (g .on .known) (g .cutter .across) (g .cutter .down) n (g .inside) i high
 
-    -- each step of a run that is done ends free of copper
-    frees : RunGranted s (w .maps) d n → blocked (ownCutter s) (w .maps) d n ≡ false → (i x y : ℕ) → 1 ≤ i → i ≤ n
-        → walk d i (pos (s .x), pos (s .y)) ≡ (pos x, pos y) → Free w x y
-    unfolding blocked
-    frees g none i x y low high at =
+    -- each pixel of a run that is done is free of copper, its start too
+    frees-pixel : RunGranted s (w .maps) d n → blocked (ownCutter s) (w .maps) d n ≡ false → (i x y : ℕ) → i ≤ n
+        → walk d i (placeOf s) ≡ (pos x, pos y) → Free w x y
+    unfolding blocked walk
+    frees-pixel g none zero x y high at = same-pixel (Free w) at (inv .stands (g .lowered))
+    frees-pixel g none (suc i) x y high at =
         let o = on-the-way (g .on) high in
-        let k : i - 1 + 1 ≡ i = omega arith in
-        let f = any-false n (λ j. not (free (j + 1))) (i - 1) none (omega arith) in
-        let p : free i ≡ true = not-false _ (rw k at f) in
-        let e = sym (steps-reach g i high) ∙ at in
-        rw (← ap (λ (t : ℤ × ℤ). natAbs (t .0)) e, ← ap (λ (t : ℤ × ℤ). natAbs (t .1)) e)
-        (passed-clear inv (g .open-sheet) (g .cutter .current) (columnAfter d i (s .x)) (rowAfter d i (s .y)) (s .q) (o .end .across) (o .end .down) p)
+        let p : free (suc i) ≡ true = not-false _ (rw (add-one i) at (any-false n (λ j. not (free (j + 1))) i none (omega arith))) in
+        same-pixel (Free w) (sym (steps-reach g (suc i) high) ∙ at)
+        (passed-clear inv (g .open-sheet) (g .cutter .current) (columnAfter d (suc i) (s .x)) (rowAfter d (suc i) (s .y)) (s .q) (o .end .across) (o .end .down) p)
 
-    run-safe : RunGranted s (w .maps) d n → blocked (ownCutter s) (w .maps) d n ≡ false → Safe (run d n) b
-    run-safe g none = at-steps (λ x y q. Clear (b .copper) (b .width) (b .height) x y q) d n (λ start q k i x y low high at.
-        let c = subst (λ (t : BoardCutter). SameCutter t s) k (inv .agree .cutter) in
-        rw (← c .1 .1) (above inv (s .q) x y (frees g none i x y low high (rw (← c .1 .0) at))))
+    -- and so is the way from each to the next
+    frees : RunGranted s (w .maps) d n → blocked (ownCutter s) (w .maps) d n ≡ false → FreeRun w d n
+    frees g none = record {
+      pixels = frees-pixel g none;
+      between = λ i x y u v l from to.
+          clear-between x y u v (one-step d (g .on .known) i (placeOf s) x y u v from to)
+          (frees-pixel g none i x y (omega arith) from) (frees-pixel g none (i + 1) u v (omega arith) to);
+    }
+
+    run-safe : RunGranted s (w .maps) d n → blocked (ownCutter s) (w .maps) d n ≡ false → Safe (run d n) b × SafeBetween (run d n) b
+    run-safe g none = (
+      at-steps (λ x y q. Clear (b .copper) (b .width) (b .height) x y q) d n (λ start q k i x y low high at.
+          let c = own k in
+          rw (← c .1 .1) (above inv (s .q) x y (frees g none .pixels i x y high (rw (← c .1 .0) at)))),
+      along-steps (λ x y u v q. ClearBetween (b .copper) (b .width) (b .height) x y u v q) d n (λ start q k i x y u v l from to.
+          let c = own k in
+          rw (← c .1 .1) (above-between inv (s .q) x y u v (frees g none .between i x y u v l (rw (← c .1 .0) from) (rw (← c .1 .0) to)))),
+    )
 
     -- one that is stopped has a step that ends too near to copper
     stopped : (k : BoardCutter) → b .cutter ≡ k → SameCutter k s → RunGranted s (w .maps) d n → blocked (ownCutter s) (w .maps) d n ≡ true → Fair (run d n) b
@@ -323,7 +352,7 @@ module _ {b : Board} {w : World} (inv : Inv b w) where
 
     -- the closest approach with the pixels of its first i steps
     meets : RunGranted s (w .maps) d n → (i : ℕ) → i ≤ n
-        → Approach (s .engine) (w .maps) (s .width) (s .height) (toolPath d i (pos (s .x), pos (s .y)) ++ b .visited) (closestAlong (ownCutter s) (w .maps) d i (s .closest))
+        → Approach (s .engine) (w .maps) (s .width) (s .height) (toolPath d i (placeOf s) ++ b .visited) (closestAlong (ownCutter s) (w .maps) d i (s .closest))
     unfolding toolPath closestAlong ascend
     meets g zero l = inv .approach
     meets g (suc i) l =
@@ -340,7 +369,7 @@ module _ {b : Board} {w : World} (inv : Inv b w) where
 
     -- where the run ends
     ends-free : RunGranted s (w .maps) d n → blocked (ownCutter s) (w .maps) d n ≡ false → Free w (columnAfter d n (s .x)) (rowAfter d n (s .y))
-    ends-free g none = frees g none n _ _ (g .steps) (omega arith) (steps-reach g n (omega arith))
+    ends-free g none = frees-pixel g none n _ _ (omega arith) (steps-reach g n (omega arith))
 
     pub run-step : StepHolds (run d n) b w
     unfolding runTable runRows
@@ -359,5 +388,6 @@ module _ {b : Board} {w : World} (inv : Inv b w) where
         ))
         (λ e. let r = run-stopped s (w .maps) d n e in stopped (b .cutter) refl (inv .agree .cutter) (r .0) (r .1))
 
-    pub run-free : firstOf (runTable s (w .maps) d n) ≡ 0 → (i x y : ℕ) → 1 ≤ i → i ≤ n → walk d i (pos (s .x), pos (s .y)) ≡ (pos x, pos y) → Free w x y
+    -- of session and sheet alone
+    pub run-free : firstOf (runTable s (w .maps) d n) ≡ 0 → FreeRun w d n
     run-free e = let r = run-done s (w .maps) d n e in frees (r .0) (r .1)

@@ -74,7 +74,7 @@ left : (cs : List Call) {b : Board} {w : World} → Inv b w → Reached (leftBy 
 left [] {b} inv = record { board = b; inv = inv }
 left (c ∷ cs) inv = left cs (step c inv .next)
 
--- whatever list of calls: no lowered cutter stands on or passes a pixel within q of copper
+-- whatever list of calls: no lowered cutter stands on or passes a pixel within q of copper, or a point between two of a run
 pub workshop : Workshop
 workshop cs sheet m lowered =
     let l = left cs (start sheet m) in

@@ -1,8 +1,9 @@
--- Demand 3: one claim about a whole list of calls, for all lists (document 01, "Lists of calls", and document 02, C-12); and over the same lists the closest
--- approach (document 02, C-11).
+-- Demand 3: one claim about a whole list of calls, for all lists (document 01, "Lists of calls", and document 02, C-12 and C-20); and over the same lists the
+-- closest approach (document 02, C-11).
 --   At every call that is done, all of the board's copper is at squared distance above q from every pixel to which the call brings a lowered cutter of q,
---   those within a run too (`Safe`). After it session and sheet agree with the board (`Agree`). A place or run answered 34 has a pixel that it tests with
---   copper within the engine's fraction of q (`Fair`). `Guarantee` says so of every list; `Workshop` says it of the session and sheet alone.
+--   those within a run too (`Safe`), and from every point between two pixels that divides a step of a run in a ratio of whole numbers (`SafeBetween`). After
+--   it session and sheet agree with the board (`Agree`). A place or run answered 34 has a pixel that it tests with copper within the engine's fraction of q
+--   (`Fair`). `Guarantee` says so of every list; `Workshop` says it of the session and sheet alone.
 --   After every call the session has recorded the least size, on the current map, of the pixels visited since the last placing that was done
 --   (`ClosestApproach`); on an exact map that is their least true squared distance (`TrueApproach`).
 -- Assumes nothing.
@@ -10,10 +11,10 @@ use mathlib.Core.Bool.{Bool, true, false, cond, not, _&&_}
 use mathlib.Core.List.{List, [], _∷_}
 use mathlib.Core.Logic.{_⊎_}
 use mathlib.Core.Path.{_≡_}
-use Prim.Native.Nat.{ℕ, _*_, _<_, _≤_}
+use Prim.Native.Nat.{ℕ, _+_, _*_, _<_, _≤_}
 use lib.Dec.{eqb, leb}
 use lib.IntN.{ℤ, pos}
-use Rattle.raster.specs.Distance.{apart, Copper, Clear}
+use Rattle.raster.specs.Distance.{apart, Copper, Clear, ClearBetween}
 use Rattle.raster.specs.Pixels.{Mask, index}
 use Rattle.raster.specs.Place.{isPixel}
 use Rattle.raster.specs.Sheet.{copperOf}
@@ -34,11 +35,21 @@ pub data Visits : Call → BoardCutter → (x y q : ℕ) → Type 0 where
   at-place : (x y q : ℕ) (c : BoardCutter) → Visits (place x y q) c x y q
   at-step : (d n : ℕ) (start : ℤ × ℤ) (q step x y : ℕ) → 1 ≤ step → step ≤ n → walk d step start ≡ (pos x, pos y) → Visits (run d n) (down start q) x y q
 
+-- the call, made with this cutter of q, takes it by one step from the pixel (x, y) to (u, v) if it is done: run by each of its single steps, the first from
+-- where the cutter stands
+pub data Travels : Call → BoardCutter → (x y u v q : ℕ) → Type 0 where
+  by-step : (d n : ℕ) (start : ℤ × ℤ) (q i x y u v : ℕ) → i < n → walk d i start ≡ (pos x, pos y) → walk d (i + 1) start ≡ (pos u, pos v)
+      → Travels (run d n) (down start q) x y u v q
+
 -- ---- what is claimed at a call, the board being as it was before it
 
 -- all of the board's copper is at squared distance above q from each pixel visited
 abbrev pub Safe : Call → Board → Type 0
 Safe c b = (x y q : ℕ) → Visits c (b .cutter) x y q → Clear (b .copper) (b .width) (b .height) x y q
+
+-- and from each point that divides a step that the call travels in a ratio of whole numbers (document 02, C-20)
+abbrev pub SafeBetween : Call → Board → Type 0
+SafeBetween c b = (x y u v q : ℕ) → Travels c (b .cutter) x y u v q → ClearBetween (b .copper) (b .width) (b .height) x y u v q
 
 -- squared distance e is at most q on the exact map, at most 169/144 of q on 8SED, at most twice q on 4SED, city block and chessboard, at most 5/4 of q on
 -- chamfer
@@ -64,17 +75,22 @@ pub record Fair (c : Call) (b : Board) : Type 0 where
   pub visited : Visits c (b .cutter) x y q
   pub close : Close b q x y
 
--- demand 3 at one call
+-- demand 3 at one call, with C-20
 pub record Claim (c : Call) (answer : ℕ) (b : Board) : Type 0 where
   pub safe : answer ≡ 0 → Safe c b
+  pub between : answer ≡ 0 → SafeBetween c b
   pub fair : answer ≡ 34 → Fair c b
 
 -- ---- session and sheet agree with the board
 
+-- where the session's cutter is
+abbrev pub placeOf : Session → ℤ × ℤ
+placeOf s = (pos (s .x), pos (s .y))
+
 -- up in both, or down in both at the same pixel with the same q
 abbrev pub SameCutter : BoardCutter → Session → Type 0
 SameCutter up s = s .lowered ≡ false
-SameCutter (down p q) s = (s .lowered ≡ true) × ((p ≡ (pos (s .x), pos (s .y))) × (s .q ≡ q))
+SameCutter (down p q) s = (s .lowered ≡ true) × ((p ≡ placeOf s) × (s .q ≡ q))
 
 -- W, H, engine and cutter are equal; a sheet is open, the map current, the pixel copper in both or in neither
 pub record Agree (b : Board) (w : World) : Type 0 where
@@ -104,13 +120,20 @@ Guarantee = (cs : List Call) (sheet : List ℕ) (m : Maps) → ClaimsHold cs bla
 abbrev pub Free : World → (x y : ℕ) → Type 0
 Free w x y = Clear (copperOf (w .sheet) (w .session .width)) (w .session .width) (w .session .height) x y (w .session .q)
 
--- whatever calls were made: a lowered cutter stands free, and a run that is done passes free pixels only
+-- and from each point that divides the way from (x, y) to (u, v) in a ratio of whole numbers
+abbrev pub FreeBetween : World → (x y u v : ℕ) → Type 0
+FreeBetween w x y u v = ClearBetween (copperOf (w .sheet) (w .session .width)) (w .session .width) (w .session .height) x y u v (w .session .q)
+
+-- so it is from each pixel of n steps in direction d, the first from where the cutter stands, and from each such point on the way from one to the next
+pub record FreeRun (w : World) (d n : ℕ) : Type 0 where
+  pub pixels : (i x y : ℕ) → i ≤ n → walk d i (placeOf (w .session)) ≡ (pos x, pos y) → Free w x y
+  pub between : (i x y u v : ℕ) → i < n → walk d i (placeOf (w .session)) ≡ (pos x, pos y) → walk d (i + 1) (placeOf (w .session)) ≡ (pos u, pos v)
+      → FreeBetween w x y u v
+
+-- whatever calls were made: a lowered cutter stands free, and a run that is done is free
 abbrev pub Workshop : Type 0
 Workshop = (cs : List Call) (sheet : List ℕ) (m : Maps) → let w = leftBy cs (world fresh sheet m) in
-    w .session .lowered ≡ true
-    → Free w (w .session .x) (w .session .y)
-    × ((d n : ℕ) → answer (run d n) w ≡ 0 → (i x y : ℕ) → 1 ≤ i → i ≤ n
-    → walk d i (pos (w .session .x), pos (w .session .y)) ≡ (pos x, pos y) → Free w x y)
+    w .session .lowered ≡ true → Free w (w .session .x) (w .session .y) × ((d n : ℕ) → answer (run d n) w ≡ 0 → FreeRun w d n)
 
 -- ---- the closest approach: document 02, C-11
 

@@ -25,6 +25,13 @@ pub record Copper (m : Mask) (w h x y : ℕ) : Type 0 where
 abbrev pub Clear : (m : Mask) (w h x y q : ℕ) → Type 0
 Clear m w h x y q = (i j : ℕ) → Copper m w h i j → q < apart x y i j
 
+-- every copper pixel is at squared distance above q from each point that divides the way from (x, y) to (u, v) in a ratio m : n of whole numbers, not both 0:
+-- document 02, C-20. The point is ((n x + m u) / (m + n), (n y + m v) / (m + n)). Here it and the copper pixel are multiplied by m + n, so that squared
+-- distances are (m + n)² times as large.
+abbrev pub ClearBetween : (copper : Mask) (w h x y u v q : ℕ) → Type 0
+ClearBetween copper w h x y u v q = (m n : ℕ) → 1 ≤ m + n → (i j : ℕ) → Copper copper w h i j
+    → (m + n) * (m + n) * q < apart (n * x + m * u) (n * y + m * v) ((m + n) * i) ((m + n) * j)
+
 -- some copper pixel is at squared distance at most q from (x, y)
 pub record Near (m : Mask) (w h x y q : ℕ) : Type 0 where
   pub column : ℕ

@@ -3,9 +3,10 @@
 use mathlib.Core.Path.{_≡_, ap}
 use Prim.Native.Nat.{ℕ, _+_, _*_, _≤_, _<_}
 use native.Mathlib.Decide.{decLe}
-use native.Mathlib.Nat.{mul-le-mul}
+use native.Mathlib.Nat.{mul-le-mul, mul-le-mul-left}
 use native.Mathlib.Omega.{arith}
-use Rattle.raster.specs.Distance.{gap, apart}
+use Rattle.raster.specs.Distance.{gap, apart, Clear, ClearBetween}
+use Rattle.raster.specs.Pixels.{Mask}
 
 -- the gap of two numbers in order
 pub gap-up : (a b : ℕ) → a ≤ b → a + gap a b ≡ b
@@ -79,3 +80,46 @@ apart-zero x y i j e =
     let a = root-le (gap x i) 0 (omega arith) in
     let b = root-le (gap y j) 0 (omega arith) in
     (gap-zero x i (omega arith), gap-zero y j (omega arith))
+
+-- ---- between two pixels: document 02, C-20
+
+-- The point that divides the way from p to p′ in the ratio m : n, and a pixel c, everything m + n times as large:
+-- |(m + n) c − n p − m p′|² + m n |p − p′|² = (m + n) (n |p − c|² + m |p′ − c|²). First on a line.
+divided-line : (m n x u i : ℕ)
+    → gap (n * x + m * u) ((m + n) * i) * gap (n * x + m * u) ((m + n) * i) + m * n * (gap x u * gap x u)
+    ≡ (m + n) * (n * (gap x i * gap x i) + m * (gap u i * gap u i))
+divided-line m n x u i =
+    let e = gap-square (n * x + m * u) ((m + n) * i) in
+    go _ (gap x u * gap x u) (gap x i * gap x i) (gap u i * gap u i) (x * x) (u * u) (i * i) (x * u) (x * i) (u * i) (omega arith)
+    (gap-square x u) (gap-square x i) (gap-square u i)
+  where
+    -- linear in the products of the coordinates
+    go : (d s a b xx uu ii xu xi ui : ℕ) → d + 2 * ((m + n) * (n * xi + m * ui)) ≡ n * n * xx + m * m * uu + 2 * (m * n * xu) + (m + n) * (m + n) * ii
+        → s + 2 * xu ≡ xx + uu → a + 2 * xi ≡ xx + ii → b + 2 * ui ≡ uu + ii → d + m * n * s ≡ (m + n) * (n * a + m * b)
+    go d s a b xx uu ii xu xi ui e f g h = omega (
+      arith,
+      ap (λ (t : ℕ). m * n * t) f,
+      ap (λ (t : ℕ). (m + n) * n * t) g,
+      ap (λ (t : ℕ). (m + n) * m * t) h,
+    )
+
+divided-apart : (m n x y u v i j : ℕ)
+    → apart (n * x + m * u) (n * y + m * v) ((m + n) * i) ((m + n) * j) + m * n * apart x y u v ≡ (m + n) * (n * apart x y i j + m * apart u v i j)
+unfolding apart
+divided-apart m n x y u v i j = omega (arith, divided-line m n x u i, divided-line m n y v j)
+
+-- between two pixels that are clear of copper, at most a diagonal step apart, the way is clear: m n |p − p′|² takes off at most 2 m n, less than (m + n)²
+pub clear-between : {copper : Mask} {w h q : ℕ} (x y u v : ℕ) → apart x y u v ≤ 2
+    → Clear copper w h x y q → Clear copper w h u v q → ClearBetween copper w h x y u v q
+clear-between x y u v step from to m n some i j c =
+    omega (
+      arith,
+      divided-apart m n x y u v i j,
+      mul-le-mul-left (m * n) step,
+      mul-le-mul-left ((m + n) * n) (from i j c),
+      mul-le-mul-left ((m + n) * m) (to i j c),
+      squares,
+    )
+  where
+    squares : 1 ≤ m * m + n * n
+    squares = elim (decLe 1 m) [ yes h ↦ omega (arith, square-le h) | no k ↦ let h : 1 ≤ n = omega arith in omega (arith, square-le h) ]

@@ -10,7 +10,7 @@ use lib.Dec.{eqb, leb, ltb}
 use lib.IntN.{ℤ}
 use lib.ListN.{length}
 use borrow.Author.Tests.{leb-true, ltb-true, leb-false, ltb-false, eqb-true, not-true, not-false}
-use Rattle.raster.specs.Limits.{maxSide, maxQ, maxCount}
+use Rattle.raster.specs.Limits.{maxSide, maxQ}
 use Rattle.raster.specs.Refusal.{firstOf}
 use Rattle.raster.specs.RefusalLaws.{none-holds, last-fails, last-holds}
 use Rattle.raster.specs.Tests.{and-left, and-right, or-left, or-right}
@@ -153,7 +153,6 @@ pub record RunGranted (s : Session) (m : Maps) (direction n : ℕ) : Type 0 wher
   pub open-sheet : active s ≡ true
   pub lowered : s .lowered ≡ true
   pub cutter : Lowered s
-  pub steps : 1 ≤ n
   pub inside : leavesSheet (ownCutter s) direction n ≡ false
   pub on : OnSheet (ownCutter s) m direction n
 
@@ -161,14 +160,12 @@ pub run-granted : (s : Session) (m : Maps) (d n : ℕ) {answer : ℕ} → answer
 unfolding runRows
 run-granted s m d n table done =
     let f = none-holds _ refl (sym table ∙ done) in
-    let counted : leb 1 n && leb n maxCount ≡ true = not-false _ (or-right (ltb 7 d) _ (f 2)) in
     let cutter = lowered-says s (and-right (s .opened) _ (not-false _ (f 0))) (not-false _ (f 3)) in
     let known = ltb-false 7 d (or-left (ltb 7 d) _ (f 2)) in
     record {
       open-sheet = not-false _ (f 0);
       lowered = not-false _ (f 3);
       cutter = cutter;
-      steps = leb-true 1 n (and-left (leb 1 n) _ counted);
       inside = f 4;
       on = on-sheet (ownCutter s) d known (cutter .across) (cutter .down) n (not-false _ (f 1)) (f 4);
     }

@@ -1,6 +1,7 @@
 //! Document 01, with what document 02 changes, as a plain model, written from the papers and not from the library's code. The tests compare
 //! the two.
 
+pub mod between;
 pub mod boards;
 pub mod calls;
 pub mod chamfer;

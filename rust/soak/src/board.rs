@@ -66,6 +66,9 @@ fn refused_within(engine: u16, q: u32) -> u64 {
     }
 }
 
+/// Ratios in which the steps of a run are divided.
+const RATIOS: [[i64; 2]; 5] = [[1, 1], [1, 2], [2, 1], [1, 9], [5, 3]];
+
 fn apart((x, y): Pixel, (column, row): Pixel) -> u64 {
     ((x - column).pow(2) + (y - row).pow(2)) as u64
 }
@@ -95,6 +98,15 @@ impl Board {
     /// Whether some copper is within q of a pixel.
     fn near(&self, pixel: Pixel, q: u64) -> bool {
         self.copper.iter().any(|&copper| apart(copper, pixel) <= q)
+    }
+
+    /// Whether some copper is within q of a point that divides the way from one pixel to another in one of the ratios. All is m + n times as
+    /// large as it would be.
+    fn near_between(&self, (x, y): Pixel, (u, v): Pixel, q: u64) -> bool {
+        RATIOS.iter().any(|&[m, n]| {
+            let (times, point) = (m + n, (n * x + m * u, n * y + m * v));
+            self.copper.iter().any(|&(column, row)| apart((times * column, times * row), point) <= times.pow(2) as u64 * q)
+        })
     }
 
     /// The pixels that a place or run brings the cutter to if it is done, and their q.
@@ -147,8 +159,9 @@ impl Board {
     }
 
     /// Feeds the board a call and its answer, and asserts what is promised of every call of a list: a cutter that is brought down or run
-    /// comes to no pixel with copper within q; one that is turned away with 34 had a pixel with copper within q, or on the quick maps and
-    /// the drafts within the engine's fraction of it; session and sheet agree with the board; the closest approach is recorded.
+    /// comes to no pixel with copper within q, and on the way of a run to no such point; one that is turned away with 34 had a pixel with
+    /// copper within q, or on the quick maps and the drafts within the engine's fraction of it; session and sheet agree with the board; the
+    /// closest approach is recorded.
     pub fn feed(&mut self, call: Call, answer: u32, left: &Left, about: &impl Debug) {
         let tested = self.tested(call);
         let on_sheet = |(x, y): Pixel| (0..self.w.into()).contains(&x) && (0..self.h.into()).contains(&y);
@@ -158,6 +171,11 @@ impl Board {
             0 => {
                 for &(pixel, q) in &tested {
                     assert!(!self.near(pixel, q.into()), "copper within {q} of {pixel:?}: {about:?}");
+                }
+                if let (Call::Run { .. }, Some(start)) = (call, self.cutter) {
+                    for (&(from, q), &(to, _)) in std::iter::once(&start).chain(&tested).zip(&tested) {
+                        assert!(!self.near_between(from, to, q.into()), "copper within {q} between {from:?} and {to:?}: {about:?}");
+                    }
                 }
                 self.done(call);
             }

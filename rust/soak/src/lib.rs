@@ -1,4 +1,5 @@
-//! Lists of calls of the session: made of the library or of the model, compared with the model, and held against the claims of document 01.
+//! Lists of calls of the session: made of the library or of the model, compared with the model, and held against the claims of documents
+//! 01 and 02.
 
 mod board;
 pub mod calls;

@@ -1,5 +1,8 @@
 //! What the tests share that are run on the library's session and on the model's.
 
+// no test file needs all of it
+#![allow(dead_code)]
+
 use model::calls::Calls;
 use model::session::Fields;
 
