@@ -65,7 +65,7 @@ next (pos (suc (suc m))) side n t k e = absurd (omega arith)
 next (negsuc zero) side n t k e = let l = ltb-false t (suc n) e in rw (le-ltb (t - n) 1 (omega arith)) (ap pos (omega arith))
 next (negsuc (suc m)) side n t k e = absurd (omega arith)
 
--- and at most one place off
+-- one step leads at most one place off
 beside : (z : ℤ) (t r : ℕ) → natAbs z ≤ 1 → pos t +ℤ z ≡ pos r → gap t r ≤ 1
 unfolding gap
 beside (pos zero) t r k e = omega (arith, ap natAbs e)

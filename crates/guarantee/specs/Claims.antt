@@ -27,7 +27,7 @@ use Rattle.session.specs.State.{fresh}
 use Rattle.session.specs.Lists.{Call, place, run, World, world, answer, worldAfter, leftBy}
 use Rattle.guarantee.specs.Board.{BoardCutter, up, down, Board, blank, feed}
 
--- ---- what a call visits
+-- ---- what a call visits, and how it gets there
 
 -- the call, made with this cutter, tests the pixel (x, y) for a cutter of q, and brings it there if it is done: place its pixel, run each that its single
 -- steps reach after the start
@@ -47,7 +47,7 @@ pub data Travels : Call → BoardCutter → (x y u v q : ℕ) → Type 0 where
 abbrev pub Safe : Call → Board → Type 0
 Safe c b = (x y q : ℕ) → Visits c (b .cutter) x y q → Clear (b .copper) (b .width) (b .height) x y q
 
--- and from each point that divides a step that the call travels in a ratio of whole numbers (document 02, C-20)
+-- and so it is from each point that divides, in a ratio of whole numbers, a step by which the call takes the cutter (document 02, C-20)
 abbrev pub SafeBetween : Call → Board → Type 0
 SafeBetween c b = (x y u v q : ℕ) → Travels c (b .cutter) x y u v q → ClearBetween (b .copper) (b .width) (b .height) x y u v q
 
@@ -124,7 +124,7 @@ Free w x y = Clear (copperOf (w .sheet) (w .session .width)) (w .session .width)
 abbrev pub FreeBetween : World → (x y u v : ℕ) → Type 0
 FreeBetween w x y u v = ClearBetween (copperOf (w .sheet) (w .session .width)) (w .session .width) (w .session .height) x y u v (w .session .q)
 
--- so it is from each pixel of n steps in direction d, the first from where the cutter stands, and from each such point on the way from one to the next
+-- n steps in direction d from where the cutter stands are free: each of their pixels, the start too, and the way from each to the next
 pub record FreeRun (w : World) (d n : ℕ) : Type 0 where
   pub pixels : (i x y : ℕ) → i ≤ n → walk d i (placeOf (w .session)) ≡ (pos x, pos y) → Free w x y
   pub between : (i x y u v : ℕ) → i < n → walk d i (placeOf (w .session)) ≡ (pos x, pos y) → walk d (i + 1) (placeOf (w .session)) ≡ (pos u, pos v)
