@@ -22,6 +22,7 @@ ghost use Rattle.session.specs.Refusals.{
   resizeTable,
   skeletonTable,
   rebuildTable,
+  probeTable,
 };
 ghost use Rattle.session.specs.Calls.{
   onDone,
@@ -30,10 +31,13 @@ ghost use Rattle.session.specs.Calls.{
   placeSession,
   runSession,
   liftSession,
+  distancesBy,
+  rowsBy,
   mapRow,
 };
 ghost use Rattle.abi.specs.Span.{rowSpan};
 ghost use Rattle.abi.specs.Weighted.{canMap};
+use session::Probed;
 use session::Reply;
 use session::Session;
 
@@ -199,6 +203,24 @@ pub extern "C" fn abi_session_rebuild(
         ≡ onDone (r .answer) (rebuilt (now (map .entry)) (s .width) (s .height) (now (marks .entry))) (now (out .entry)) ⌝ }
 {
     s.rebuild(map, marks, out)
+}
+
+#[no_mangle]
+pub extern "C" fn abi_session_probe(
+    s: Session,
+    sheet: &[u8],
+    points: &[u16],
+    scratch: &mut [i16],
+    out: &mut [u32],
+) -> Probed
+    ensures answered { λ r. ⌜ r .answer ≡ firstOf (probeTable s (now (sheet .entry)) (now (points .entry)) (now (scratch .entry)) (now (out .entry))) ⌝ }
+    ensures counted { λ r. ⌜ r .rows ≡ onDone (r .answer) (rowsBy s (now (points .entry)) (now (out .entry))) 0 ⌝ }
+    ensures handed_back { λ r. ⌜ r .session ≡ s ⌝ }
+    ensures out_left { λ r. ⌜ now (out .exit)
+        ≡ onDone (r .answer) (distancesBy s (now (sheet .entry)) (now (points .entry)) (now (out .entry))) (now (out .entry)) ⌝ }
+    ensures scratch_left { λ r. ⌜ now (scratch .exit) ≡ onDone (r .answer) (scratchBy s (now (scratch .entry))) (now (scratch .entry)) ⌝ }
+{
+    s.probe(sheet, points, scratch, out)
 }
 
 // Where a part of a slice stands.

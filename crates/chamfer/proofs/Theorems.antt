@@ -3,10 +3,10 @@
 --   copper pixel gives, and no copper pixel gives less;
 --   for the engines 4 to 6: the gate passes c² only where all copper is above q, and fails only where some is within the engine's fraction of q.
 -- Assumes nothing.
-use mathlib.Core.Path.{_≡_, refl, sym, subst, _∙_}
-use mathlib.Core.Bool.{Bool, true, false}
+use mathlib.Core.Path.{_≡_, sym, subst, _∙_}
+use mathlib.Core.Bool.{true, false}
 use mathlib.Core.List.{List}
-use Prim.Native.Nat.{ℕ, zero, suc, _+_, _*_, _-_, _≤_, _<_}
+use Prim.Native.Nat.{ℕ, _+_, _*_, _-_, _≤_, _<_}
 use native.Mathlib.Decide.{decLe, ℕ-discrete}
 use native.Mathlib.Nat.{le-trans, mul-le-mul-left}
 use native.Mathlib.Omega.{arith}
@@ -16,48 +16,21 @@ use Rattle.raster.specs.Limits.{maxSide}
 use Rattle.raster.specs.Pixels.{Mask, index}
 use Rattle.raster.specs.PixelsLaws.{pixels-at}
 use Rattle.raster.specs.Distance.{gap, apart, Copper, Clear}
-use Rattle.raster.specs.DistanceLaws.{gap-square, gap-below, square-le}
+use Rattle.raster.specs.DistanceLaws.{gap-square, gap-below, square-le, Giver, to-copper-giver}
 use Rattle.raster.specs.Gate.{passes, NearBy}
 use Rattle.raster.specs.GateLaws.{passed-above, failed-within}
-use Rattle.chamfer.specs.Chamfer.{Weights, chamferDistance, noValue, leastBelow, given, value, chamferMap}
+use Rattle.chamfer.specs.Chamfer.{Weights, chamferDistance, noValue, value, chamferMap}
 use Rattle.chamfer.specs.ChamferLaws.{wide, turned, distance-small, value-top, value-under, value-over}
 use Rattle.chamfer.specs.Engines.{weights, sideWeight, cornerWeight, noValueAt, squareAt, gate, fairFraction}
 use Rattle.chamfer.proofs.Weights.{allowed}
 
 -- ---- any two weights
 
--- the least of some numbers is one of them, or unlabelled
-record Found (n : ℕ) (f : ℕ → ℕ) : Type 0 where
-  place : ℕ
-  below : place < n
-  least : f place ≡ leastBelow n f
-
-least-found : (n : ℕ) (f : ℕ → ℕ) → leastBelow n f < noValue → Found n f
-unfolding leastBelow
-least-found zero f l = absurd (omega arith)
-least-found (suc n) f l = elim (decLe (f n) (leastBelow n f)) [
-  | yes q ↦ record { place = n; below = omega arith; least = omega arith }
-  | no q ↦ let r = least-found n f (omega arith) in record { place = r .place; below = omega (arith, r .below); least = omega (arith, r .least) }
-]
-
 module _ (a b : ℕ) (copper : Mask) (w h x y : ℕ) where
   -- some copper pixel gives the value
-  pub record Giver : Type 0 where
-    pub column : ℕ
-    pub row : ℕ
-    pub on-copper : Copper copper w h column row
-    pub is : value a b copper w h x y ≡ chamferDistance a b (gap x column) (gap y row)
-
-  pub labelled-giver : value a b copper w h x y < noValue → Giver
+  pub labelled-giver : value a b copper w h x y < noValue → Giver noValue copper w h (λ i j. chamferDistance a b (gap x i) (gap y j))
   unfolding value
-  labelled-giver l =
-      let r = least-found h (λ j. leastBelow w (λ i. given a b copper w h x y i j)) l in
-      let s = least-found w (λ i. given a b copper w h x y i (r .place)) (omega (arith, r .least)) in
-      go (s .place) (r .place) (s .below) (r .below) (s .least ∙ r .least) (copper (s .place) (r .place)) refl
-    where
-      go : (i j : ℕ) → i < w → j < h → given a b copper w h x y i j ≡ value a b copper w h x y → (t : Bool) → copper i j ≡ t → Giver
-      go i j across down e true c = record { column = i; row = j; on-copper = record { across = across; down = down; is-copper = c }; is = sym (rw c at e) }
-      go i j across down e false c = absurd (omega (arith, rw c at e))
+  labelled-giver l = to-copper-giver noValue copper w h (λ i j. chamferDistance a b (gap x i) (gap y j)) l
 
   -- without copper the pixel is unlabelled
   pub value-none : ((i j : ℕ) → Copper copper w h i j → ⊥) → value a b copper w h x y ≡ noValue
@@ -146,7 +119,7 @@ module _ (copper : Mask) (w h e : ℕ) (first : 4 ≤ e) (last : e ≤ 6) where
         passed-above (gate e) (c * c) q (apart x y i j) bound p
 
     pub gate-fair : (q : ℕ) → noValueAt map (index w x y) ≡ false → passes (gate e) (squareAt map (index w x y)) q ≡ false → NearBy (fairFraction e) copper w h x y q
-    unfolding apart
+    unfolding apart value
     gate-fair q labelled p =
         let l : c < noValue = omega (arith, eqb-false c noValue labelled, is-value, value-top (sideWeight e) (cornerWeight e) copper w h x y) in
         let g = labelled-giver _ _ copper w h x y (rw is-value at l) in

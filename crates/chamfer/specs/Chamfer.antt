@@ -1,10 +1,9 @@
 -- The map of chamfer distances: document 02, C-12. One number a pixel, a value: the least, over the copper pixels of the sheet, of what a way there costs by
 -- side steps of weight a and corner steps of weight b.
 -- Assumes nothing.
-use mathlib.Core.Bool.{cond}
 use mathlib.Core.List.{List}
-use Prim.Native.Nat.{ℕ, zero, suc, _+_, _*_, _-_, _≤_, max, min}
-use Rattle.raster.specs.Distance.{gap}
+use Prim.Native.Nat.{ℕ, _+_, _*_, _-_, _≤_, max, min}
+use Rattle.raster.specs.Distance.{gap, leastToCopper}
 use Rattle.raster.specs.Pixels.{Mask, pixels}
 
 -- the weights of a side step and of a corner step that document 02 allows
@@ -21,19 +20,10 @@ chamferDistance a b u v = a * (max u v - min u v) + b * min u v
 abbrev pub noValue : ℕ
 noValue = 65535
 
--- the least of f 0 .. f (n − 1), and unlabelled if none of them is less
-unfoldable pub leastBelow : (n : ℕ) → (ℕ → ℕ) → ℕ
-leastBelow zero f = noValue
-leastBelow (suc n) f = min (f n) (leastBelow n f)
-
 module _ (a b : ℕ) (copper : Mask) (w h : ℕ) where
-  -- what the pixel (i, j) gives the pixel (x, y), if it is copper
-  abbrev pub given : (x y i j : ℕ) → ℕ
-  given x y i j = cond (copper i j) (chamferDistance a b (gap x i) (gap y j)) noValue
-
-  -- the value of the pixel (x, y): the least that a pixel of the sheet gives it
+  -- the value of the pixel (x, y): the least that a copper pixel gives it, unlabelled without copper
   unfoldable pub value : (x y : ℕ) → ℕ
-  value x y = leastBelow h (λ j. leastBelow w (λ i. given x y i j))
+  value x y = leastToCopper noValue copper w h (λ i j. chamferDistance a b (gap x i) (gap y j))
 
   -- at every pixel
   unfoldable pub chamferMap : List ℕ

@@ -1,15 +1,14 @@
 -- The laws of chamfer distances and of values. With these weights the distance is a norm: one step changes it by at most its weight. A value is the greatest
 -- number that is not above what any copper pixel gives.
 -- Assumes nothing.
-use mathlib.Core.Path.{_≡_, refl, ap, _∙_}
-use mathlib.Core.Bool.{Bool, true, false}
-use Prim.Native.Nat.{ℕ, zero, suc, _+_, _*_, _-_, _≤_, _<_, max, min}
-use native.Mathlib.Decide.{decLe, decLt}
+use mathlib.Core.Path.{_≡_, ap, _∙_}
+use Prim.Native.Nat.{ℕ, zero, suc, _+_, _*_, _-_, _≤_, max, min}
+use native.Mathlib.Decide.{decLe}
 use native.Mathlib.Omega.{arith}
 use Rattle.raster.specs.Distance.{gap, Copper}
-use Rattle.raster.specs.DistanceLaws.{gap-by-way}
+use Rattle.raster.specs.DistanceLaws.{gap-by-way, to-copper-top, to-copper-under, to-copper-over}
 use Rattle.raster.specs.Pixels.{Mask}
-use Rattle.chamfer.specs.Chamfer.{Weights, chamferDistance, noValue, leastBelow, given, value}
+use Rattle.chamfer.specs.Chamfer.{Weights, chamferDistance, noValue, value}
 
 -- ---- the distance
 
@@ -74,49 +73,21 @@ module _ (a b : ℕ) where
     pub distance-small : (u v : ℕ) → u ≤ 2047 → v ≤ 2047 → chamferDistance a b u v ≤ 65504
     distance-small u v l m = omega (arith, no-less u v 2047 2047 l m, wide 2047 2047 (omega arith), ok .small)
 
--- ---- the least of some numbers
-
-pub least-under : (n : ℕ) (f : ℕ → ℕ) (i : ℕ) → i < n → leastBelow n f ≤ f i
-unfolding leastBelow
-least-under zero f i l = absurd (omega arith)
-least-under (suc n) f i l = elim (decLt i n) [
-  | yes h ↦ omega (arith, least-under n f i h)
-  | no h ↦ let e : i ≡ n = omega arith in rw e (omega arith)
-]
-
-pub least-top : (n : ℕ) (f : ℕ → ℕ) → leastBelow n f ≤ noValue
-unfolding leastBelow
-least-top zero f = omega arith
-least-top (suc n) f = omega (arith, least-top n f)
-
-pub least-over : (n : ℕ) (f : ℕ → ℕ) (k : ℕ) → k ≤ noValue → ((i : ℕ) → i < n → k ≤ f i) → k ≤ leastBelow n f
-unfolding leastBelow
-least-over zero f k top below = top
-least-over (suc n) f k top below = omega (arith, below n (omega arith), least-over n f k top (λ i l. below i (omega arith)))
-
 -- ---- values
 
 module _ (a b : ℕ) (copper : Mask) (w h : ℕ) where
   pub value-top : (x y : ℕ) → value a b copper w h x y ≤ noValue
   unfolding value
-  value-top x y = least-top h _
+  value-top x y = to-copper-top noValue copper w h _
 
   -- no copper pixel gives less, and any number that none of them is below is not above the value
   pub value-under : (x y i j : ℕ) → Copper copper w h i j → value a b copper w h x y ≤ chamferDistance a b (gap x i) (gap y j)
   unfolding value
-  value-under x y i j c =
-      omega (arith, least-under h (λ r. leastBelow w (λ k. given a b copper w h x y k r)) j (c .down), least-under w (λ k. given a b copper w h x y k j) i (c .across), copper-gives)
-    where
-      copper-gives : given a b copper w h x y i j ≡ chamferDistance a b (gap x i) (gap y j)
-      copper-gives = rw (c .is-copper)
+  value-under x y = to-copper-under noValue copper w h (λ i j. chamferDistance a b (gap x i) (gap y j))
 
   pub value-over : (x y k : ℕ) → k ≤ noValue → ((i j : ℕ) → Copper copper w h i j → k ≤ chamferDistance a b (gap x i) (gap y j)) → k ≤ value a b copper w h x y
   unfolding value
-  value-over x y k top below = least-over h _ k top (λ j d. least-over w _ k top (λ i l. go i j l d (copper i j) refl))
-    where
-      go : (i j : ℕ) → i < w → j < h → (t : Bool) → copper i j ≡ t → k ≤ given a b copper w h x y i j
-      go i j l d true e = rw e (below i j (record { across = l; down = d; is-copper = e }))
-      go i j l d false e = rw e top
+  value-over x y = to-copper-over noValue copper w h (λ i j. chamferDistance a b (gap x i) (gap y j))
 
   -- one step changes a value by at most its weight
   module _ (ok : Weights a b) (x y x′ y′ : ℕ) (column : gap x x′ ≤ 1) (row : gap y y′ ≤ 1) where

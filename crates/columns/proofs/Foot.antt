@@ -94,7 +94,8 @@ module _ (copper : Mask) (h i y : ℕ) (inside : y < h) where
   down-bare : ((m : ℕ) → m ≤ h - 1 - y → copper i (h - 1 - m) ≡ false) → (j : ℕ) → y ≤ j → j < h → copper i j ≡ false
   down-bare none j k on = sym (ap (copper i) (mirrored j on)) ∙ none (h - 1 - j) (omega arith)
 
-  both : {u d : ℤ} → Back (copper i) y u → Back (λ t. copper i (h - 1 - t)) (h - 1 - y) d → Foot copper h i y (shorter u d)
+  -- from both searches together
+  pub both : {u d : ℤ} → Back (copper i) y u → Back (λ t. copper i (h - 1 - t)) (h - 1 - y) d → Foot copper h i y (shorter u d)
   both (found n l c none) (found m k b rest) =
       let u = up-found n l c none in
       let d = down-found m k b rest in

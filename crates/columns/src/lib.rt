@@ -60,8 +60,8 @@ fn pass_down(sheet: &[u8], ways: &mut [i16], w: usize, h: usize)
     rows_down(sheet, ways, &mut above, w, h);
 }
 
-// The shorter of two ways as a component, among equals upwards.
-fn shorter_of(u: i16, d: i16) -> i16
+// The shorter of two ways as a component, among equals upwards; −1 says that there is none.
+pub fn shorter_of(u: i16, d: i16) -> i16
     ensures { λ r. ⌜ r ≡ shorter u d ⌝ }
 {
     if u < 0 {

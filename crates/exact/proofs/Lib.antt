@@ -10,3 +10,4 @@ pub mod Prices
 pub mod Split
 pub mod Parts
 pub mod Solving
+pub mod Scratch

@@ -1,7 +1,7 @@
 -- What the exact map guarantees, at every pixel of every sheet up to 2,048 × 2,048: document 01, "Engines".
 --   With copper, the vector ends on a copper pixel (`ends-on-copper`), no copper pixel is nearer (`least`), and of those as near it is the one of least
 --   column, then least row (`is-exact`, which says all of it); no other map is so (`only-exact`). Without copper every pixel is unlabelled. No component
---   is outside ±2,047. The gate passes exactly where all copper is above q.
+--   is outside ±2,047. The size is the true squared distance (`true-distance`). The gate passes exactly where all copper is above q.
 -- Assumes nothing.
 use mathlib.Core.Path.{_≡_, sym, ap, _∙_}
 use mathlib.Core.Logic.{_⊎_, inl, inr}
@@ -12,20 +12,33 @@ use native.Mathlib.Omega.{arith}
 use lib.IntN.{ℤ, pos, negsuc, natAbs, _+ℤ_, _-ℤ_, +ℤ-comm, +ℤ-negℤ-cancel}
 use lib.ListN.{length}
 use borrow.Author.Tests.{eqb-true}
-use Rattle.raster.specs.Distance.{apart, Copper, Clear}
+use Rattle.raster.specs.Distance.{apart, Copper, Clear, trueDistance}
+use Rattle.raster.specs.DistanceLaws.{apart-small, distance-is, distance-none}
 use Rattle.raster.specs.Gate.{passes, NearBy}
 use Rattle.raster.specs.GateLaws.{passed-above, failed-near}
 use Rattle.raster.specs.Limits.{maxSide}
 use Rattle.raster.specs.Map.{dxAt, dyAt}
 use Rattle.raster.specs.MapLaws.{vectors-dx, vectors-dy, vectors-is}
 use Rattle.raster.specs.Pixels.{Mask, index}
-use Rattle.raster.specs.Vector.{size, mark, isMark, unlabelled, Target}
+use Rattle.raster.specs.Vector.{size, mark, isMark, unlabelled, Ends, Target}
 use Rattle.raster.specs.VectorLaws.{near-labelled, way-ends, ends-size, target-near}
 use Rattle.raster.specs.Tests.{and-left, and-right}
-use Rattle.exact.specs.Nearest.{Nearest, Exact, to-nearest, bare-sheet, SearchState, nearest, toColumn, toRow, exactMap, gate}
+use Rattle.exact.specs.Nearest.{Nearest, Exact, to-nearest, bare-sheet, SearchState, nearest, toColumn, toRow, exactMap, distanceBy, gate}
 use Rattle.exact.proofs.Search.{Answer, no-copper, nearest-at, found}
 
 module _ (copper : Mask) (w h : ℕ) (wide : w ≤ maxSide) (tall : h ≤ maxSide) (x y : ℕ) (across : x < w) (down : y < h) where
+  -- a vector that ends on copper is labelled
+  ends-labelled : {i j : ℕ} {u v : ℤ} → Copper copper w h i j → Ends x y u v i j → unlabelled u v ≡ false
+  ends-labelled {u = u} {v = v} c e = near-labelled u v (omega (arith, target-near across down (record { column = _; row = _; on-copper = c; ends = e }) .0))
+
+  -- what an exact vector says of the true squared distance is so
+  pub exact-distance : {u v : ℤ} → Exact copper w h x y u v → distanceBy u v ≡ trueDistance copper w h x y
+  exact-distance (to-nearest i j n e) =
+      let c = n .on-copper in
+      rw (ends-labelled c e)
+      (ends-size e ∙ sym (distance-is copper w h x y i j c (n .least) (omega (arith, apart-small w h x y i j wide tall across down (c .across) (c .down)))))
+  exact-distance (bare-sheet bare u) = rw u (sym (distance-none copper w h x y bare))
+
   abbrev pub dx : ℤ
   dx = dxAt (exactMap copper w h) (index w x y)
 
@@ -65,9 +78,7 @@ module _ (copper : Mask) (w h : ℕ) (wide : w ≤ maxSide) (tall : h ≤ maxSid
   with-copper i j c = go is-exact
     where
       go : Exact copper w h x y dx dy → unlabelled dx dy ≡ false
-      go (to-nearest a b n e) =
-          let t : Target copper w h x y dx dy = record { column = a; row = b; on-copper = n .on-copper; ends = e } in
-          near-labelled dx dy (omega (arith, target-near across down t .0))
+      go (to-nearest a b n e) = ends-labelled (n .on-copper) e
       go (bare-sheet bare u) = absurd (bare i j c)
 
   pub without-copper : ((i j : ℕ) → Copper copper w h i j → ⊥) → unlabelled dx dy ≡ true
@@ -83,6 +94,10 @@ module _ (copper : Mask) (w h : ℕ) (wide : w ≤ maxSide) (tall : h ≤ maxSid
       go : Exact copper w h x y dx dy → size dx dy ≤ apart x y a b
       go (to-nearest i j n e) = omega (arith, ends-size e, n .least a b c)
       go (bare-sheet bare u) = absurd (bare a b c)
+
+  -- the size is the true squared distance, and unlabelled says that there is no copper
+  pub true-distance : distanceBy dx dy ≡ trueDistance copper w h x y
+  true-distance = exact-distance is-exact
 
   -- the gate passes only where all copper is above q, and fails only where some is not
   pub gate-safe : (q : ℕ) → passes gate (size dx dy) q ≡ true → Clear copper w h x y q

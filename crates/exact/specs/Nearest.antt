@@ -10,12 +10,12 @@ use Prim.Native.Nat.{ℕ, _*_, _<_, _≤_}
 use lib.Dec.{ltb}
 use lib.IntN.{ℤ, pos, _-ℤ_}
 use lib.ListN.{drop, replicate}
-use Rattle.raster.specs.Distance.{apart, Copper}
+use Rattle.raster.specs.Distance.{apart, Copper, noDistance}
 use Rattle.raster.specs.Gate.{Gate}
 use Rattle.raster.specs.Loop.{ascend}
 use Rattle.raster.specs.Map.{vectors}
 use Rattle.raster.specs.Pixels.{Mask}
-use Rattle.raster.specs.Vector.{mark, unlabelled, Ends}
+use Rattle.raster.specs.Vector.{size, mark, unlabelled, Ends}
 
 -- (i, j) is the nearest copper pixel of (x, y), among equals that of the least column, then the least row
 pub record Nearest (copper : Mask) (w h x y i j : ℕ) : Type 0 where
@@ -61,6 +61,10 @@ toRow y (foundAt i j) = pos j -ℤ pos y
 -- the way there, at every pixel
 unfoldable pub exactMap : (copper : Mask) (w h : ℕ) → List ℤ
 exactMap copper w h = vectors w h (λ x y. toColumn x (nearest copper x y w h)) (λ x y. toRow y (nearest copper x y w h))
+
+-- what a vector that goes there says of the pixel's true squared distance: it is its size; unlabelled, there is no copper
+abbrev pub distanceBy : (dx dy : ℤ) → ℕ
+distanceBy dx dy = cond (unlabelled dx dy) noDistance (size dx dy)
 
 -- ---- scratch: Calls, build; document 02, C-22
 

@@ -244,7 +244,7 @@ fn solve_next(
 
 // The row by its parts, from the first to the last. A part starts with the last copper of the run before it, and ends with the first of the next: beyond
 // these no column is better.
-fn solve_parts(
+pub fn solve_parts(
     map: &mut [i16],
     base: usize,
     w: usize,
@@ -319,7 +319,7 @@ fn solve(map: &mut [i16], w: usize, h: usize, ways: &mut [i16])
 // ---- the map
 
 // Sets the first n numbers to 0.
-fn zero(scratch: &mut [i16], n: usize)
+pub fn zero(scratch: &mut [i16], n: usize)
     requires { ⌜ n ≤ length (now scratch) ⌝ }
     ensures { λ _. ⌜ now (scratch .exit) ≡ cleared n (now (scratch .entry)) ⌝ }
 {

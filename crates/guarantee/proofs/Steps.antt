@@ -28,9 +28,9 @@ use Rattle.cutter.proofs.Walk.{one-step, reached, on-the-way}
 use Rattle.session.specs.declared.Session.{Session}
 use Rattle.session.specs.State.{sound, active, cutterUp, stale, builtBy, recorded, cutterOf, ownCutter}
 use Rattle.session.specs.Maps.{mapsBuilt}
-use Rattle.session.specs.Refusals.{openTable, fillTable, buildTable, buildTableBy, placeRows, placeTable, runRows, runTable, resizeTable, resizeTableBy, readTable}
+use Rattle.session.specs.Refusals.{openTable, fillTable, buildTable, buildTableBy, placeRows, placeTable, runRows, runTable, resizeTable, resizeTableBy, readTable, probeTable}
 use Rattle.session.specs.Calls.{filledBy, runSession}
-use Rattle.session.specs.Lists.{Lent, Call, opening, paint, erase, build, place, run, lift, expand, shrink, skeleton, rebuild, aside, World, world, lentTo, tableOf, answer, left, worldAfter}
+use Rattle.session.specs.Lists.{Lent, Call, opening, paint, erase, build, place, run, lift, expand, shrink, skeleton, rebuild, probe, aside, World, world, lentTo, tableOf, answer, left, worldAfter}
 use Rattle.session.proofs.Granted.{open-granted, fill-granted, Building, build-granted, Placing, place-done, place-stopped, RunGranted, run-done, run-stopped, resize-granted}
 use Rattle.guarantee.specs.Board.{BoardCutter, up, down, Board, boardOf, recoppered, withCutter, cutterRun, toolPath, toolPathOf, done, feed}
 use Rattle.guarantee.specs.Claims.{Visits, at-place, at-step, Travels, by-step, Safe, SafeBetween, Fair, Claim, placeOf, SameCutter, Free, FreeRun, Approach}
@@ -57,6 +57,7 @@ refused (expand q s) w e = rw e
 refused (shrink q s) w e = rw e
 refused (skeleton o) w e = refl
 refused (rebuild m o) w e = refl
+refused (probe p s o) w e = refl
 refused aside w e = refl
 
 -- ---- what holds of the pixels that a call visits
@@ -209,6 +210,11 @@ module _ {b : Board} {w : World} (inv : Inv b w) where
   unfolding readTable
   rebuild-step marks out =
       quiet-step (rebuild marks out) refl (λ a c q. elim [ ]) (λ e. inv)
+
+  pub probe-step : (points : List ℕ) (scratch : List ℤ) (out : List ℕ) → StepHolds (probe points scratch out) b w
+  unfolding probeTable
+  probe-step points scratch out =
+      quiet-step (probe points scratch out) refl (λ a c q. elim [ ]) (λ e. inv)
 
   pub aside-step : StepHolds aside b w
   aside-step = quiet-step aside refl (λ a c q. elim [ ]) (λ e. inv)

@@ -8,7 +8,7 @@ use Prim.Native.Nat.{ℕ}
 use native.Mathlib.Omega.{arith}
 use Rattle.cutter.specs.Kinds.{Maps}
 use Rattle.session.specs.State.{fresh, closestSound, cutterSound, mapSound, sheetSound, sound}
-use Rattle.session.specs.Lists.{Call, opening, paint, erase, build, place, run, lift, expand, shrink, skeleton, rebuild, aside, World, world, leftBy}
+use Rattle.session.specs.Lists.{Call, opening, paint, erase, build, place, run, lift, expand, shrink, skeleton, rebuild, probe, aside, World, world, leftBy}
 use Rattle.guarantee.specs.Board.{Board, blank}
 use Rattle.guarantee.specs.Claims.{ClaimsHold, Guarantee, Workshop, Along, ClosestApproach, TrueApproach}
 use Rattle.guarantee.proofs.Approach.{no-approach}
@@ -27,6 +27,7 @@ use Rattle.guarantee.proofs.Steps.{
   shrink-step,
   skeleton-step,
   rebuild-step,
+  probe-step,
   aside-step,
 }
 
@@ -42,6 +43,7 @@ step (expand q s) inv = expand-step inv q s
 step (shrink q s) inv = shrink-step inv q s
 step (skeleton o) inv = skeleton-step inv o
 step (rebuild m o) inv = rebuild-step inv m o
+step (probe p s o) inv = probe-step inv p s o
 step aside inv = aside-step inv
 
 -- at the start

@@ -10,7 +10,7 @@ use Rattle.raster.specs.Pixels.{Mask}
 use Rattle.raster.specs.Sheet.{inRectangle}
 use Rattle.morphology.specs.Resize.{grows, stays}
 use Rattle.cutter.specs.Directions.{walk}
-use Rattle.session.specs.Lists.{Call, opening, paint, erase, build, place, run, lift, expand, shrink, skeleton, rebuild, aside}
+use Rattle.session.specs.Lists.{Call, opening, paint, erase, build, place, run, lift, expand, shrink, skeleton, rebuild, probe, aside}
 
 -- up, or down at a place with a q. A run is taken in single steps of the table of directions (`walk`).
 pub data BoardCutter : Type 0 where
@@ -68,6 +68,7 @@ done (expand q s) b = recoppered (grows (b .copper) (b .width) (b .height) q) b
 done (shrink q s) b = recoppered (stays (b .copper) (b .width) (b .height) q) b
 done (skeleton out) b = b
 done (rebuild marks out) b = b
+done (probe points s out) b = b
 done aside b = b
 
 -- after a call with its answer: 0 is done, any other changes nothing

@@ -1,4 +1,5 @@
--- The boards that document 01 marks for proof, M1 to M9, and those of document 02's C-12, C-14 and C-16, as one table of what the definitions say on them.
+-- The boards that document 01 marks for proof, M1 to M9, and those of document 02's C-12, C-14 and C-16, and one for C-19, as one table of what the definitions say
+-- on them.
 -- Assumes nothing.
 use mathlib.Core.Bool.{true, false}
 use mathlib.Core.List.{List, [], _∷_}
@@ -6,7 +7,9 @@ use mathlib.Core.Path.{_≡_}
 use Prim.Native.Nat.{ℕ}
 use lib.IntN.{ℤ, pos, negsuc}
 use lib.ListN.{getD}
+use Rattle.raster.specs.Distance.{noDistance}
 use Rattle.raster.specs.Map.{dxAt, dyAt}
+use Rattle.raster.specs.Sheet.{bare}
 use Rattle.morphology.specs.Resize.{shrunk}
 use Rattle.rebuild.specs.Rebuild.{rebuilt}
 use Rattle.skeleton.specs.Table.{g}
@@ -16,10 +19,21 @@ use Rattle.cutter.specs.Kinds.{Maps, maps, sizeIn}
 use Rattle.cutter.specs.Gates.{passesAt}
 use Rattle.session.specs.State.{openedAs}
 use Rattle.session.specs.Maps.{enginePairs, mapsBuilt}
+use Rattle.session.specs.Calls.{distancesBy, rowsBy}
 
--- 4 × 4 with copper at (3, 0), (0, 3) and (2, 2): its map by an engine
+-- 4 × 4 with copper at (3, 0), (0, 3) and (2, 2), and its map by an engine
+unfoldable pub fourSheet : List ℕ
+fourSheet = 0 ∷ 0 ∷ 0 ∷ 1 ∷ 0 ∷ 0 ∷ 0 ∷ 0 ∷ 0 ∷ 0 ∷ 1 ∷ 0 ∷ 1 ∷ 0 ∷ 0 ∷ 0 ∷ []
+
 unfoldable pub four : (engine : ℕ) → Maps
-four e = mapsBuilt (openedAs 4 4) (0 ∷ 0 ∷ 0 ∷ 1 ∷ 0 ∷ 0 ∷ 0 ∷ 0 ∷ 0 ∷ 0 ∷ 1 ∷ 0 ∷ 1 ∷ 0 ∷ 0 ∷ 0 ∷ []) e (maps [] [])
+four e = mapsBuilt (openedAs 4 4) fourSheet e (maps [] [])
+
+-- the points (0, 0), (3, 1) and (1, 1), and room for their distances
+unfoldable pub probes : List ℕ
+probes = 0 ∷ 0 ∷ 3 ∷ 1 ∷ 1 ∷ 1 ∷ []
+
+unfoldable pub room : List ℕ
+room = 7 ∷ 7 ∷ 7 ∷ []
 
 -- 3 × 1 with copper at 0: what each engine makes of it
 unfoldable pub three : List ℤ
@@ -41,7 +55,7 @@ unfoldable pub middle : List ℕ
 middle = 0 ∷ 0 ∷ 0 ∷ 0 ∷ 1 ∷ 0 ∷ 0 ∷ 0 ∷ 0 ∷ []
 
 pub data Marked : Type 0 where
-  m1 m2 m3 m4 m5 m6 m7 m8 m9 c12 c14 c16 : Marked
+  m1 m2 m3 m4 m5 m6 m7 m8 m9 c12 c14 c16 c19 : Marked
 
 -- what the documents say of each
 abbrev pub Says : Marked → Type 0
@@ -64,3 +78,6 @@ Says c12 =
     × ((getD (four 6 .values) 0 0 ≡ 8) × ((passesAt 6 (four 6) 0 6 ≡ true) × (passesAt 6 (four 6) 0 7 ≡ false))))
 Says c14 = (shrunk 3 3 1 full ≡ middle) × (shrunk 3 3 0 full ≡ full)
 Says c16 = (dxAt corner 3 ≡ negsuc 0) × (dyAt corner 3 ≡ pos 0)
+Says c19 =
+    (distancesBy (openedAs 4 4) fourSheet probes room ≡ (8 ∷ 1 ∷ 2 ∷ []))
+    × ((rowsBy (openedAs 4 4) probes room ≡ 2) × (distancesBy (openedAs 4 4) (bare fourSheet) probes room ≡ (noDistance ∷ noDistance ∷ noDistance ∷ [])))

@@ -15,7 +15,7 @@ use Rattle.raster.specs.RefusalLaws.{every, first-every}
 use Rattle.raster.specs.Tests.{and-left, and-right}
 use Rattle.cutter.specs.Kinds.{Maps}
 use Rattle.session.specs.declared.Session.{Session}
-use Rattle.session.specs.Refusals.{openTable, fillTable, buildTable, buildTableBy, placeRows, placeTable, runRows, runTable, resizeTable, resizeTableBy, readTable}
+use Rattle.session.specs.Refusals.{openTable, fillTable, buildTable, buildTableBy, placeRows, placeTable, runRows, runTable, resizeTable, resizeTableBy, readTable, probeTable}
 use Rattle.session.specs.Lists as calls
 use Rattle.session.specs.Lists.{World, tableOf, answer, leftBy}
 use Rattle.records.specs.declared.Record.{Record}
@@ -31,7 +31,7 @@ use Rattle.job.specs.Execute.{Executed, Buffers, JobRunning}
 -- ---- no answer has more than two digits
 
 small : (c : calls.Call) (w : World) → every (λ n. ltb n 100) (tableOf c w) ≡ true
-unfolding openTable fillTable buildTable buildTableBy placeRows placeTable runRows runTable resizeTable resizeTableBy readTable
+unfolding openTable fillTable buildTable buildTableBy placeRows placeTable runRows runTable resizeTable resizeTableBy readTable probeTable
 small (calls.opening a b o) w = refl
 small (calls.paint x y c r) w = refl
 small (calls.erase x y c r) w = refl
@@ -43,6 +43,7 @@ small (calls.expand q s) w = refl
 small (calls.shrink q s) w = refl
 small (calls.skeleton o) w = refl
 small (calls.rebuild m o) w = refl
+small (calls.probe p s o) w = refl
 small calls.aside w = refl
 
 pub two-digits : (c : calls.Call) (w : World) → answer c w < 100

@@ -1,10 +1,11 @@
 -- Squared distance, and what it means that copper is near or is not: document 01, "Sheet, map, session". The true squared distance e of a
 -- pixel is the least squared distance to a copper pixel, and counts as above every number where there is no copper. So "e is at most q" is
--- `Near` and "e is above q" is `Clear`.
+-- `Near` and "e is above q" is `Clear`. Document 02's C-19 asks for e as a number (`trueDistance`).
 -- Assumes nothing.
 use mathlib.Core.Path.{_≡_}
-use mathlib.Core.Bool.{true}
+use mathlib.Core.Bool.{true, cond}
 use Prim.Native.Nat.{ℕ, _+_, _*_, _-_, _<_, _≤_}
+use Rattle.raster.specs.Loop.{leastBelow}
 use Rattle.raster.specs.Pixels.{Mask}
 
 -- how far two numbers lie apart
@@ -38,3 +39,17 @@ pub record Near (m : Mask) (w h x y q : ℕ) : Type 0 where
   pub row : ℕ
   pub copper : Copper m w h column row
   pub within : apart x y column row ≤ q
+
+-- ---- the least over all copper
+
+-- the least of what the copper pixels of the sheet give, d i j each, and `top` if none gives less
+unfoldable pub leastToCopper : (top : ℕ) (m : Mask) (w h : ℕ) (d : (i j : ℕ) → ℕ) → ℕ
+leastToCopper top m w h d = leastBelow top h (λ j. leastBelow top w (λ i. cond (m i j) (d i j) top))
+
+-- the number that stands for the true squared distance where there is no copper
+abbrev pub noDistance : ℕ
+noDistance = 4294967295
+
+-- the true squared distance of the pixel (x, y)
+unfoldable pub trueDistance : (m : Mask) (w h x y : ℕ) → ℕ
+trueDistance m w h x y = leastToCopper noDistance m w h (apart x y)

@@ -1,11 +1,15 @@
 -- The laws of squared distance. Every comparison of distances becomes a linear one over products by `gap-square`.
 -- Assumes nothing.
-use mathlib.Core.Path.{_≡_, ap}
+use mathlib.Core.Path.{_≡_, refl, sym, ap, _∙_}
+use mathlib.Core.Bool.{Bool, true, false, cond}
 use Prim.Native.Nat.{ℕ, _+_, _*_, _≤_, _<_}
 use native.Mathlib.Decide.{decLe}
 use native.Mathlib.Nat.{mul-le-mul, mul-le-mul-left}
 use native.Mathlib.Omega.{arith}
-use Rattle.raster.specs.Distance.{gap, apart, Clear, ClearBetween}
+use Rattle.raster.specs.Distance.{gap, apart, Copper, Clear, ClearBetween, Near, leastToCopper, noDistance, trueDistance}
+use Rattle.raster.specs.Limits.{maxSide}
+use Rattle.raster.specs.Loop.{leastBelow}
+use Rattle.raster.specs.LoopLaws.{least-top, least-under, least-over, least-found}
 use Rattle.raster.specs.Pixels.{Mask}
 
 -- the gap of two numbers in order
@@ -63,6 +67,14 @@ root-le a b h = elim (decLe a b) [ yes p ↦ p | no n ↦ absurd (far (omega ari
   where
     far : b + 1 ≤ a → ⊥
     far q = omega (arith, square-le q)
+
+-- the squared distance of two pixels of a sheet of up to 2,048 × 2,048
+pub apart-small : (w h x y i j : ℕ) → w ≤ maxSide → h ≤ maxSide → x < w → y < h → i < w → j < h → apart x y i j ≤ 8380418
+unfolding apart
+apart-small w h x y i j wide tall a b c d =
+    let k : gap x i ≤ 2047 = omega (arith, gap-below x i w a c) in
+    let l : gap y j ≤ 2047 = omega (arith, gap-below y j h b d) in
+    omega (arith, square-le k, square-le l)
 
 -- a pixel is at squared distance 0 from itself
 pub apart-self : (x y : ℕ) → apart x y x y ≡ 0
@@ -123,3 +135,86 @@ clear-between x y u v step from to m n some i j c =
   where
     squares : 1 ≤ m * m + n * n
     squares = elim (decLe 1 m) [ yes h ↦ omega (arith, square-le h) | no k ↦ let h : 1 ≤ n = omega arith in omega (arith, square-le h) ]
+
+-- ---- the least over all copper
+
+module _ (top : ℕ) (m : Mask) (w h : ℕ) (d : (i j : ℕ) → ℕ) where
+  -- what the pixel (i, j) gives, if it is copper
+  abbrev given : (i j : ℕ) → ℕ
+  given i j = cond (m i j) (d i j) top
+
+  pub to-copper-top : leastToCopper top m w h d ≤ top
+  unfolding leastToCopper
+  to-copper-top = least-top top h _
+
+  -- no copper pixel gives less, and every number that is not above `top` and what any of them gives is not above the least
+  pub to-copper-under : (i j : ℕ) → Copper m w h i j → leastToCopper top m w h d ≤ d i j
+  unfolding leastToCopper
+  to-copper-under i j c =
+      omega (arith, least-under top h (λ r. leastBelow top w (λ k. given k r)) j (c .down), least-under top w (λ k. given k j) i (c .across), copper-gives)
+    where
+      copper-gives : given i j ≡ d i j
+      copper-gives = rw (c .is-copper)
+
+  pub to-copper-over : (k : ℕ) → k ≤ top → ((i j : ℕ) → Copper m w h i j → k ≤ d i j) → k ≤ leastToCopper top m w h d
+  unfolding leastToCopper
+  to-copper-over k l below = least-over top h _ k l (λ j down. least-over top w _ k l (λ i across. go i j across down (m i j) refl))
+    where
+      go : (i j : ℕ) → i < w → j < h → (t : Bool) → m i j ≡ t → k ≤ given i j
+      go i j across down true e = rw e (below i j (record { across = across; down = down; is-copper = e }))
+      go i j across down false e = rw e l
+
+  -- some copper pixel gives the least
+  pub record Giver : Type 0 where
+    pub column : ℕ
+    pub row : ℕ
+    pub on-copper : Copper m w h column row
+    pub is : leastToCopper top m w h d ≡ d column row
+
+  pub to-copper-giver : leastToCopper top m w h d < top → Giver
+  unfolding leastToCopper
+  to-copper-giver l =
+      let r = least-found top h (λ j. leastBelow top w (λ i. given i j)) l in
+      let s = least-found top w (λ i. given i (r .place)) (omega (arith, r .least)) in
+      go (s .place) (r .place) (s .below) (r .below) (s .least ∙ r .least) (m (s .place) (r .place)) refl
+    where
+      go : (i j : ℕ) → i < w → j < h → given i j ≡ leastToCopper top m w h d → (t : Bool) → m i j ≡ t → Giver
+      go i j across down e true c = record { column = i; row = j; on-copper = record { across = across; down = down; is-copper = c }; is = sym (rw c at e) }
+      go i j across down e false c = absurd (omega (arith, rw c at e))
+
+-- ---- the true squared distance as a number: at most q is `Near`, above q is `Clear`, for every q below the number that says that there is no copper
+
+module _ (m : Mask) (w h x y : ℕ) where
+  pub distance-under : (i j : ℕ) → Copper m w h i j → trueDistance m w h x y ≤ apart x y i j
+  unfolding trueDistance
+  distance-under = to-copper-under noDistance m w h (apart x y)
+
+  -- the distance of the nearest copper pixel
+  pub distance-is : (i j : ℕ) → Copper m w h i j → ((a b : ℕ) → Copper m w h a b → apart x y i j ≤ apart x y a b) → apart x y i j ≤ noDistance
+      → trueDistance m w h x y ≡ apart x y i j
+  unfolding trueDistance
+  distance-is i j c least l = omega (arith, distance-under i j c, to-copper-over noDistance m w h (apart x y) (apart x y i j) l least)
+
+  pub distance-none : ((i j : ℕ) → Copper m w h i j → ⊥) → trueDistance m w h x y ≡ noDistance
+  unfolding trueDistance
+  distance-none none =
+      let d = apart x y in
+      omega (arith, to-copper-top noDistance m w h d, to-copper-over noDistance m w h d noDistance (omega arith) (λ i j c. absurd (none i j c)))
+
+  module _ (q : ℕ) where
+    pub near-distance : Near m w h x y q → trueDistance m w h x y ≤ q
+    near-distance n = omega (arith, distance-under (n .column) (n .row) (n .copper), n .within)
+
+    pub distance-clear : q < trueDistance m w h x y → Clear m w h x y q
+    distance-clear l i j c = omega (arith, distance-under i j c)
+
+    module _ (small : q < noDistance) where
+      pub distance-near : trueDistance m w h x y ≤ q → Near m w h x y q
+      unfolding trueDistance
+      distance-near l =
+          let g = to-copper-giver noDistance m w h (apart x y) (omega arith) in
+          record { column = g .column; row = g .row; copper = g .on-copper; within = omega (arith, g .is) }
+
+      pub clear-distance : Clear m w h x y q → q < trueDistance m w h x y
+      unfolding trueDistance
+      clear-distance clear = omega (arith, to-copper-over noDistance m w h (apart x y) (q + 1) (omega arith) (λ i j c. omega (arith, clear i j c)))

@@ -15,12 +15,13 @@ use Rattle.raster.specs.Refusal.{firstOf}
 use Rattle.raster.specs.RefusalLaws.{none-holds, last-fails, last-holds}
 use Rattle.raster.specs.Tests.{and-left, and-right, or-left, or-right}
 use Rattle.exact.specs.Nearest.{scratchNeed}
+use Rattle.probe.specs.Points.{pointOff, rowsFall}
 use Rattle.cutter.specs.Kinds.{Maps, hasPixels}
 use Rattle.cutter.specs.Gates.{knownEngine, OnSheet, mayStand, leavesSheet, blocked}
 use Rattle.cutter.proofs.Walk.{on-sheet}
 use Rattle.session.specs.declared.Session.{Session}
 use Rattle.session.specs.State.{side, cutterSound, mapSound, sheetSound, sound, active, cutterOf, ownCutter}
-use Rattle.session.specs.Refusals.{notSheet, notMap, notMapBy, shortScratch, openTable, fillTable, buildTable, buildTableBy, placeRows, placeTable, runRows, runTable, resizeTable, resizeTableBy, readTable}
+use Rattle.session.specs.Refusals.{notSheet, notMap, notMapBy, shortScratch, openTable, fillTable, buildTable, buildTableBy, placeRows, placeTable, runRows, runTable, resizeTable, resizeTableBy, readTable, probeTable}
 
 both : (a b : Bool) → a && b ≡ true → (a ≡ true) × (b ≡ true)
 both a b e = (and-left a b e, and-right a b e)
@@ -228,4 +229,29 @@ read-granted s map wrong table done =
       open-sheet = not-false _ (f 0);
       held = eqb-true _ _ (not-false _ (or-left (notMap s map) _ (f 1)));
       right = or-right (notMap s map) _ (f 1);
+    }
+
+-- ---- probe
+
+pub record Probing (s : Session) (sheet points : List ℕ) (scratch : List ℤ) (out : List ℕ) : Type 0 where
+  pub open-sheet : active s ≡ true
+  pub held : length sheet ≡ s .height * s .width
+  pub spare : scratchNeed (s .width) ≤ length scratch
+  pub paired : length points ≡ 2 * length out
+  pub on : pointOff (s .width) (s .height) (length out) points ≡ false
+  pub level : rowsFall (length out) points ≡ false
+
+pub probe-granted : (s : Session) (sheet points : List ℕ) (scratch : List ℤ) (out : List ℕ) {answer : ℕ}
+    → answer ≡ firstOf (probeTable s sheet points scratch out) → answer ≡ 0 → Probing s sheet points scratch out
+unfolding probeTable
+probe-granted s sheet points scratch out table done =
+    let f = none-holds _ refl (sym table ∙ done) in
+    let others = or-right (notSheet s sheet) _ (f 1) in
+    record {
+      open-sheet = not-false _ (f 0);
+      held = eqb-true _ _ (not-false _ (or-left (notSheet s sheet) _ (f 1)));
+      spare = ltb-false _ _ (or-left (shortScratch s scratch) _ others);
+      paired = eqb-true _ _ (not-false _ (or-right (shortScratch s scratch) _ others));
+      on = f 2;
+      level = f 3;
     }

@@ -1,4 +1,4 @@
--- What each call leaves: document 01, "Calls", and document 02, C-11 and C-12. A call that answers 0 does what is said here; any other leaves the session and
+-- What each call leaves: document 01, "Calls", and document 02, C-11, C-12 and C-19. A call that answers 0 does what is said here; any other leaves the session and
 -- every slice as they came.
 -- Assumes nothing.
 use mathlib.Core.Bool.{Bool, cond, _&&_}
@@ -6,9 +6,10 @@ use mathlib.Core.List.{List, []}
 use Prim.Native.Nat.{ℕ, _*_}
 use lib.Dec.{eqb, ltb}
 use lib.IntN.{ℤ}
-use lib.ListN.{take, drop}
-use Rattle.raster.specs.Sheet.{filled}
+use lib.ListN.{length, take, drop}
+use Rattle.raster.specs.Sheet.{copperOf, filled}
 use Rattle.exact.specs.Nearest.{scratchLeft}
+use Rattle.probe.specs.Points.{distancesAt, rowsAmong}
 use Rattle.cutter.specs.Kinds.{Maps}
 use Rattle.cutter.specs.Closest.{unmet, closestAt, closestAlong}
 use Rattle.cutter.specs.Directions.{columnAfter, rowAfter}
@@ -39,6 +40,13 @@ runSession s m d n = downAt (columnAfter d n (s .x)) (rowAfter d n (s .y)) (s .q
 -- lift: done also if the cutter was up; the closest approach stays. A session that is not sound becomes a fresh one
 abbrev pub liftSession : Session → Session
 liftSession s = cond (sound s) (upOf s) fresh
+
+-- probe: the answers, one a point, and the number of different rows; the session stays as it came
+abbrev pub distancesBy : Session → (sheet points out : List ℕ) → List ℕ
+distancesBy s sheet points out = distancesAt (copperOf sheet (s .width)) (s .width) (s .height) (length out) points
+
+abbrev pub rowsBy : Session → (points out : List ℕ) → ℕ
+rowsBy s points out = rowsAmong (s .height) (length out) points
 
 -- map row y: the part of the map that holds it; an empty part with nothing open, y not below H, or a map of a wrong length
 abbrev pub hasRow : Session → List ℤ → (y : ℕ) → Bool

@@ -15,7 +15,7 @@ use Rattle.cutter.specs.Kinds.{Maps, maps}
 use Rattle.session.specs.declared.Session.{Session}
 use Rattle.session.specs.State.{openedAs, stale, builtBy}
 use Rattle.session.specs.Maps.{mapsBuilt}
-use Rattle.session.specs.Refusals.{openTable, fillTable, buildTable, placeTable, runTable, resizeTable, skeletonTable, rebuildTable}
+use Rattle.session.specs.Refusals.{openTable, fillTable, buildTable, placeTable, runTable, resizeTable, skeletonTable, rebuildTable, probeTable}
 use Rattle.session.specs.Calls.{onDone, filledBy, scratchBy, placeSession, runSession, liftSession}
 
 -- ---- the calls
@@ -38,6 +38,7 @@ pub data Call : Type 0 where
   shrink : (q : ℕ) (scratch : List ℤ) → Call
   skeleton : (out : List ℕ) → Call
   rebuild : (marks out : List ℕ) → Call
+  probe : (points : List ℕ) (scratch : List ℤ) (out : List ℕ) → Call
   -- map row, radius or splitting, which write nothing and hand back no session
   aside : Call
 
@@ -68,6 +69,7 @@ tableOf (expand q scratch) w = resizeTable (w .session) (w .sheet) (w .maps .pai
 tableOf (shrink q scratch) w = resizeTable (w .session) (w .sheet) (w .maps .pairs) scratch q
 tableOf (skeleton out) w = skeletonTable (w .session) (w .maps .pairs) out
 tableOf (rebuild marks out) w = rebuildTable (w .session) (w .maps .pairs) marks out
+tableOf (probe points scratch out) w = probeTable (w .session) (w .sheet) points scratch out
 tableOf lift w = []
 tableOf aside w = []
 
@@ -100,13 +102,14 @@ left (expand q scratch) a w = resized a (expanded (w .session .width) (w .sessio
 left (shrink q scratch) a w = resized a (shrunk (w .session .width) (w .session .height) q (w .sheet)) w
 left (skeleton out) a w = w
 left (rebuild marks out) a w = w
+left (probe points scratch out) a w = w
 left aside a w = w
 
 -- what a call leaves
 abbrev pub worldAfter : Call → World → World
 worldAfter c w = left c (answer c w) w
 
--- it writes the scratch that it is lent: exact does, also within expand and shrink
+-- it writes the scratch that it is lent: exact does, also within expand and shrink, and probe
 abbrev pub writesScratch : Call → Bool
 writesScratch (opening a b o) = false
 writesScratch (paint x y c r) = false
@@ -119,6 +122,7 @@ writesScratch (expand q scratch) = true
 writesScratch (shrink q scratch) = true
 writesScratch (skeleton out) = false
 writesScratch (rebuild marks out) = false
+writesScratch (probe points scratch out) = true
 writesScratch aside = false
 
 -- what it leaves in scratch

@@ -1,4 +1,4 @@
--- The tables of refusals: document 01, its two tables of numbers and the order under them, and document 02, C-12. Each call has one table, 30 first, then
+-- The tables of refusals: document 01, its two tables of numbers and the order under them, and document 02, C-12 and C-19. Each call has one table, 30 first, then
 -- ascending. Its answer is the first number whose condition holds, or 0 (`firstOf`).
 -- Assumes nothing.
 use mathlib.Core.Bool.{Bool, not, _&&_, _||_}
@@ -11,6 +11,7 @@ use Rattle.raster.specs.Limits.{maxQ, maxCount}
 use Rattle.raster.specs.Map.{hasCopper}
 use Rattle.raster.specs.Refusal.{Table}
 use Rattle.exact.specs.Nearest.{scratchNeed}
+use Rattle.probe.specs.Points.{pointOff, rowsFall}
 use Rattle.cutter.specs.Kinds.{Maps, hasPixels}
 use Rattle.cutter.specs.Gates.{knownEngine, mayStand, leavesSheet, blocked}
 use Rattle.session.specs.declared.Session.{Session}
@@ -71,6 +72,15 @@ skeletonTable s map out = readTable s map (notSheet s out)
 
 abbrev pub rebuildTable : Session → List ℤ → (marks out : List ℕ) → Table
 rebuildTable s map marks out = readTable s map (notSheet s marks || notSheet s out)
+
+-- probe; a list of odd length is twice as long as no slice of answers
+unfoldable pub probeTable : Session → (sheet points : List ℕ) (scratch : List ℤ) (out : List ℕ) → Table
+probeTable s sheet points scratch out =
+    (not (active s), 30)
+    ∷ (notSheet s sheet || (shortScratch s scratch || not (eqb (length points) (2 * length out))), 12)
+    ∷ (pointOff (s .width) (s .height) (length out) points, 16)
+    ∷ (rowsFall (length out) points, 43)
+    ∷ []
 
 -- build; only engine 1 asks for scratch
 unfoldable pub buildTableBy : (short : Bool) → Session → List ℕ → Maps → (engine : ℕ) → Table

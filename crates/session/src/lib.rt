@@ -1,4 +1,4 @@
-// The session (document 01, and document 02, C-11 and C-12): every call takes it by value and hands it back with an answer number, 0 if it was done. No call
+// The session (document 01, and document 02, C-11, C-12 and C-19): every call takes it by value and hands it back with an answer number, 0 if it was done. No call
 // asks anything of its caller: bad input gets its number, and a refusal changes nothing.
 ghost use mathlib.Core.Path.{_≡_};
 ghost use mathlib.Core.Bool.{cond, _&&_};
@@ -20,6 +20,7 @@ ghost use Rattle.session.specs.Refusals.{
   resizeTable,
   skeletonTable,
   rebuildTable,
+  probeTable,
   buildTable,
   placeTable,
   runTable,
@@ -31,6 +32,8 @@ ghost use Rattle.session.specs.Calls.{
   placeSession,
   runSession,
   liftSession,
+  distancesBy,
+  rowsBy,
   hasRow,
   mapRow,
 };
@@ -59,6 +62,14 @@ pub struct Session {
 #[repr(C)]
 pub struct Reply {
     pub answer: u32,
+    pub session: Session,
+}
+
+// What probe hands back: the number of different rows among its points, too.
+#[repr(C)]
+pub struct Probed {
+    pub answer: u32,
+    pub rows: u32,
     pub session: Session,
 }
 
@@ -376,6 +387,40 @@ impl Session {
         }
         Reply {
             answer,
+            session: self,
+        }
+    }
+
+    // Writes the true squared distance of each point in `out`, with no map; 4,294,967,295 without copper. Points are x and y in turn, their rows do not fall.
+    pub fn probe(
+        mut self,
+        sheet: &[u8],
+        points: &[u16],
+        scratch: &mut [i16],
+        out: &mut [u32],
+    ) -> Probed
+        ensures answered { λ r. ⌜ r .answer
+            ≡ firstOf (probeTable self (now (sheet .entry)) (now (points .entry)) (now (scratch .entry)) (now (out .entry))) ⌝ }
+        ensures counted { λ r. ⌜ r .rows ≡ onDone (r .answer) (rowsBy self (now (points .entry)) (now (out .entry))) 0 ⌝ }
+        ensures handed_back { λ r. ⌜ r .session ≡ self ⌝ }
+        ensures out_left { λ r. ⌜ now (out .exit)
+            ≡ onDone (r .answer) (distancesBy self (now (sheet .entry)) (now (points .entry)) (now (out .entry))) (now (out .entry)) ⌝ }
+        ensures scratch_left { λ r. ⌜ now (scratch .exit) ≡ onDone (r .answer) (scratchBy self (now (scratch .entry))) (now (scratch .entry)) ⌝ }
+    {
+        let answer = refusals::probe_answer(self, sheet, points, scratch, out);
+        if answer != 0 {
+            return Probed {
+                answer,
+                rows: 0,
+                session: self,
+            };
+        }
+        let w = self.width as usize;
+        let h = self.height as usize;
+        let rows = probe::probe(sheet, points, scratch, out, w, h);
+        Probed {
+            answer,
+            rows,
             session: self,
         }
     }

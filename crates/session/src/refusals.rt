@@ -5,7 +5,17 @@ ghost use mathlib.Core.Bool.{cond};
 ghost use Prim.Native.Nat.{_*_};
 ghost use Rattle.raster.specs.Refusal.{firstOf};
 ghost use Rattle.cutter.specs.Kinds.{maps, hasPixels};
-ghost use Rattle.session.specs.Refusals.{isMap, openTable, fillTable, resizeTable, readTable, buildTable, placeRows, runRows};
+ghost use Rattle.session.specs.Refusals.{
+  isMap,
+  openTable,
+  fillTable,
+  resizeTable,
+  readTable,
+  probeTable,
+  buildTable,
+  placeRows,
+  runRows,
+};
 use crate::Session;
 use crate::state;
 
@@ -95,6 +105,29 @@ pub fn read_answer(s: Session, map: &[i16], wrong: bool) -> u32
     }
     if !raster::has_copper(map, pixels_of(s)) {
         return 37;
+    }
+    0
+}
+
+pub fn probe_answer(s: Session, sheet: &[u8], points: &[u16], scratch: &[i16], out: &[u32]) -> u32
+    ensures { λ r. ⌜ r ≡ firstOf (probeTable s (now (sheet .entry)) (now (points .entry)) (now (scratch .entry)) (now (out .entry))) ⌝ }
+{
+    if !state::is_active(s) {
+        return 30;
+    }
+    let need = exact::scratch_need(s.width);
+    let pixels = pixels_of(s);
+    let n = out.len();
+    if (sheet.len() != pixels) | ((scratch.len() < need) | (points.len() != 2 * n)) {
+        return 12;
+    }
+    let off = probe::has_point_off(points, n, s.width as usize, s.height as usize);
+    let falls = probe::has_falling_row(points, n);
+    if off {
+        return 16;
+    }
+    if falls {
+        return 43;
     }
     0
 }

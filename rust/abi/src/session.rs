@@ -37,6 +37,11 @@
 //! assert_eq!(draft.place(&[], &values, 0, 0, 7).answer, 34);
 //! let down = draft.place(&[], &values, 0, 0, 6);
 //! assert_eq!((down.answer, down.session.closest.get()), (0, Some(64)));
+//!
+//! // the true squared distances of some points, row by row, with no map at all
+//! let mut distances = [7; 3];
+//! let probed = session.probe(&sheet, &[0, 0, 3, 1, 1, 1], &mut [0; 16], &mut distances);
+//! assert_eq!((probed.answer, probed.rows, distances), (0, 2, [8, 1, 2]));
 //! ```
 
 /// The closest approach: the least size, on the current map, of the labelled pixels that the cutter has met since the last placing that was
@@ -99,9 +104,21 @@ pub struct Reply {
     pub session: Session,
 }
 
+/// What a probe hands back.
+#[repr(C)]
+#[derive(Clone, Copy, Debug, PartialEq, Eq)]
+pub struct Probed {
+    /// The answer number, 0 if the call was done.
+    pub answer: u32,
+    /// In how many different rows the points are; 0 if the call was refused.
+    pub rows: u32,
+    /// The session, as it came.
+    pub session: Session,
+}
+
 /// The functions of the archive, as `crates/abi/src/lib.rt` exports them: a slice is its pointer and its length.
 mod ffi {
-    use super::{Reply, Session};
+    use super::{Probed, Reply, Session};
 
     /// Where a part of a slice stands.
     #[repr(C)]
@@ -179,6 +196,17 @@ mod ffi {
             out: *mut u8,
             out_len: usize,
         ) -> Reply;
+        pub fn abi_session_probe(
+            s: Session,
+            sheet: *const u8,
+            sheet_len: usize,
+            points: *const u16,
+            points_len: usize,
+            scratch: *mut i16,
+            scratch_len: usize,
+            out: *mut u32,
+            out_len: usize,
+        ) -> Probed;
         pub fn abi_session_row(s: Session, map: *const i16, map_len: usize, y: u16) -> Span;
     }
 }
@@ -276,6 +304,21 @@ impl Session {
         // SAFETY: each pointer comes with the length of the slice it is from, out is lent to nobody else, and the function has no
         // `requires`. It is proved to return and to stay within the three slices.
         unsafe { ffi::abi_session_rebuild(self, map.as_ptr(), map.len(), marks.as_ptr(), marks.len(), out.as_mut_ptr(), out.len()) }
+    }
+
+    /// Writes the true squared distance of each point, its least squared distance to a copper pixel, or 4,294,967,295 if the sheet has no
+    /// copper. The points are pairs of numbers, x then y, and their rows must not decrease; in one row the columns may come in any order,
+    /// and points may repeat. No map is needed, and the session comes back as it came, also if a map is current or the cutter down. Out has
+    /// one number a point. Scratch of at least 4 × W numbers is needed and left as by exact, the first 4 × W at 0 and the rest untouched.
+    /// Refusals: 30, 12, 16 if some point is off the sheet, 43 if the y of some point is less than that of the point before.
+    pub fn probe(self, sheet: &[u8], points: &[u16], scratch: &mut [i16], out: &mut [u32]) -> Probed {
+        let (sheet, sheet_len) = (sheet.as_ptr(), sheet.len());
+        let (points, points_len) = (points.as_ptr(), points.len());
+        let (scratch, scratch_len) = (scratch.as_mut_ptr(), scratch.len());
+        let (out, out_len) = (out.as_mut_ptr(), out.len());
+        // SAFETY: each pointer comes with the length of the slice it is from, scratch and out are lent to nobody else, and the function has
+        // no `requires`. It is proved to return and to stay within the four slices.
+        unsafe { ffi::abi_session_probe(self, sheet, sheet_len, points, points_len, scratch, scratch_len, out, out_len) }
     }
 
     /// The part of the pairs that holds row y, whatever built them. It is empty, and from their start, if nothing is open, y is not below the

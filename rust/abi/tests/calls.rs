@@ -98,7 +98,17 @@ fn assert_closest<S: Calls>(calls: &[(Call, u32, Option<u32>)]) {
     let board = boards::document_01();
     let (mut session, map) = built::<S>(&board, 1);
     assert!(!session.met);
-    let mut slices = Slices { sheet: board.sheet, map, values: vec![0; 16], scratch: vec![0; 16], marks: vec![1; 16], out: vec![0; 16] };
+    let mut slices = Slices {
+        sheet: board.sheet,
+        map,
+        values: vec![0; 16],
+        scratch: vec![0; 16],
+        marks: vec![1; 16],
+        out: vec![0; 16],
+        points: vec![0, 0],
+        distances: vec![0],
+        rows: 0,
+    };
     for (at, &(call, answer, closest)) in calls.iter().enumerate() {
         let found;
         (found, session) = told(call.make(S::from(session), slices.lend()));
@@ -114,8 +124,8 @@ fn c11<S: Calls>() {
     let placed = [(place(0, 0, 1), 0, Some(8)), (run(0, 1), 0, Some(4)), (run(4, 1), 0, Some(4))];
     let anew = [(place(0, 0, 1), 0, Some(8)), (run(0, 2), 34, Some(8)), (run(4, 1), 33, Some(8)), (run(1, 1), 0, Some(2))];
     let kept = [(place(0, 0, 8), 34, Some(2)), (place(4, 0, 1), 16, Some(2)), (Call::Lift, 0, Some(2)), (run(0, 1), 32, Some(2))];
-    let others =
-        [(Call::Skeleton, 0, Some(2)), (Call::Rebuild, 0, Some(2)), (Call::Build { engine: 7 }, 14, Some(2)), (Call::Lift, 0, Some(2))];
+    let others = [(Call::Skeleton, 0), (Call::Rebuild, 0), (Call::Probe, 0), (Call::Build { engine: 7 }, 14), (Call::Lift, 0)];
+    let others = others.map(|(call, answer)| (call, answer, Some(2)));
     assert_closest::<S>(&[&placed[..], &anew, &kept, &others].concat());
     let changes = [
         Call::Open { w: 4, h: 4 },
@@ -191,9 +201,9 @@ fn c22<S: Calls>() {
     for (w, h) in [(1, 1), (1, 3), (1, 4), (1, 5), (3, 1), (3, 2), (3, 3), (3, 4), (3, 5), (2_048, 1), (2_048, 3), (2_048, 4), (1, 2_048)] {
         for length in [4 * w - 1, 4 * w, 4 * w + 1, w * h - 1, w * h, w * h + 1, 0] {
             let short = length < 4 * w;
-            let exact = [Call::Build { engine: 1 }, Call::Expand { q: 1 }, Call::Shrink { q: 1 }].map(|call| (call, short, !short));
+            let exact = [Call::Build { engine: 1 }, Call::Expand { q: 1 }, Call::Shrink { q: 1 }, Call::Probe];
             let others = (2..=6).map(|engine| (Call::Build { engine }, false, false));
-            for (call, refused, cleared) in exact.into_iter().chain(others) {
+            for (call, refused, cleared) in exact.map(|call| (call, short, !short)).into_iter().chain(others) {
                 let answer = if refused { 12 } else { 0 };
                 let left = |at: usize| if cleared && at < 4 * w { 0 } else { 9 };
                 assert_scratch::<S>(&boards::one_pixel(w, h), call, length, answer, left);
@@ -206,21 +216,21 @@ fn c22<S: Calls>() {
 fn assert_scratch<S: Calls>(board: &Board, call: Call, length: usize, answer: u32, left: impl Fn(usize) -> i16) {
     let (width, height) = board.sides();
     let session = Fields { opened: true, width, height, ..Fields::FRESH };
-    let (map, values) = (vec![9; 2 * board.sheet.len()], vec![9; board.sheet.len()]);
-    let mut slices = Slices {
+    let before = Slices {
         sheet: board.sheet.clone(),
-        map: map.clone(),
-        values: values.clone(),
+        map: vec![9; 2 * board.sheet.len()],
+        values: vec![9; board.sheet.len()],
         scratch: vec![9; length],
-        marks: vec![],
-        out: vec![],
+        points: vec![0, 0],
+        distances: vec![9],
+        ..Slices::default()
     };
+    let mut slices = before.clone();
     let (found, after) = told(call.make(S::from(session), slices.lend()));
     let about = format!("{call:?} with scratch of {length} on {width} × {height}");
     assert_eq!(found, answer, "{about}");
     assert!(slices.scratch.iter().enumerate().all(|(at, &number)| number == left(at)), "scratch: {about}");
-    let untouched = slices.sheet == board.sheet && slices.map == map && slices.values == values;
-    assert!(answer == 0 || untouched && after == session, "written: {about}");
+    assert!(answer == 0 || slices == before && after == session, "written: {about}");
 }
 
 fn limits<S: Calls>() {
@@ -248,12 +258,15 @@ fn sides_that_no_sheet_has<S: Calls>() {
             scratch: vec![7; scratch_need(width.into())],
             marks: vec![1; pixels],
             out: vec![7; pixels],
+            points: vec![0, 0],
+            distances: vec![7],
+            rows: 0,
         };
         for engine in [0, 1, 4] {
             let session = Fields { opened: true, width, height, current: engine != 0, engine, ..Fields::FRESH };
             let [open, paint] = [Call::Open { w: width, h: height }, Call::Paint { x: 0, y: 0, w: 1, h: 1 }];
             let builds = (1..=6).map(|engine| Call::Build { engine });
-            let others = [paint, Call::Expand { q: 1 }, Call::Shrink { q: 1 }, Call::Skeleton, Call::Rebuild];
+            let others = [paint, Call::Expand { q: 1 }, Call::Shrink { q: 1 }, Call::Skeleton, Call::Rebuild, Call::Probe];
             for (call, answer) in builds.chain(others).map(|call| (call, 30)).chain([(open, 11)]) {
                 let mut slices = lent.clone();
                 let found = told(call.make(S::from(session), slices.lend()));
@@ -384,6 +397,7 @@ fn order_of_refusals<S: Calls>() {
     place_refusals::<S>(&tried);
     run_refusals::<S>(&tried);
     read_refusals::<S>(&tried);
+    probe_refusals::<S>(&tried);
 }
 
 /// Open asks nothing of the session.
@@ -468,6 +482,25 @@ fn read_refusals<S: Calls>(tried: &Tried) {
             let answer = session.skeleton(cut(&mut map.clone(), one), cut(&mut out, two)).0;
             assert_eq!(answer, session.rebuild(cut(&mut map, one), &marks, cut(&mut out, two)).0);
             answer
+        });
+    }
+}
+
+/// Of four points one may be off the sheet, and one in a row less than that before it, each at the start of the list or at its end.
+fn probe_refusals<S: Calls>(tried: &Tried) {
+    for (which, [off, back]) in (0..4).flat_map(|which| [[0, 0], [0, 3], [3, 0], [3, 3]].map(|at| (which, at))) {
+        every_set(&[12, 16, 30, 43], |wrong| {
+            let (mut sheet, mut scratch, mut out) = (tried.sheet.clone(), [9; 16], [9; 4]);
+            let mut points = [[1, 1], [2, 1], [0, 2], [3, 2]];
+            if wrong(16) {
+                points[off][0] = 4;
+            }
+            if wrong(43) {
+                points[back][1] = 3 - back as u16;
+            }
+            let [one, two, three, four] = [0, 1, 2, 3].map(|slice| wrong(12) && which == slice);
+            let (points, out) = (cut(points.as_flattened_mut(), three), cut(&mut out, four));
+            unless::<S>(wrong(30), tried.open).probe(cut(&mut sheet, one), points, cut(&mut scratch, two), out).0
         });
     }
 }

@@ -55,8 +55,17 @@ fn document_01<S: Calls>() {
 
 /// Document 01's board for all calls: every slice has a length that fits.
 fn slices() -> Slices {
-    let sheet = boards::document_01().sheet;
-    Slices { sheet, map: vec![0; 32], values: vec![0; 16], scratch: vec![9; scratch_need(4)], marks: vec![1; 16], out: vec![9; 16] }
+    Slices {
+        sheet: boards::document_01().sheet,
+        map: vec![0; 32],
+        values: vec![0; 16],
+        scratch: vec![9; scratch_need(4)],
+        marks: vec![1; 16],
+        out: vec![9; 16],
+        points: vec![0, 0, 3, 1],
+        distances: vec![9; 2],
+        rows: 0,
+    }
 }
 
 /// The session with that board open, its map by an engine or with 0 not current, and the cutter down if there is a map.
@@ -79,6 +88,7 @@ fn calls() -> Vec<Call> {
         Call::Shrink { q: 1 },
         Call::Skeleton,
         Call::Rebuild,
+        Call::Probe,
     ];
     builds.chain(others).collect()
 }
@@ -88,7 +98,7 @@ fn tested(call: Call, engine: u16) -> Option<Kind> {
     match call {
         Call::Build { engine: 4..=6 } => Some(Kind::Values),
         Call::Place { .. } | Call::Run { .. } if (4..=6).contains(&engine) => Some(Kind::Values),
-        Call::Open { .. } | Call::Paint { .. } | Call::Erase { .. } | Call::Lift => None,
+        Call::Open { .. } | Call::Paint { .. } | Call::Erase { .. } | Call::Lift | Call::Probe => None,
         _ => Some(Kind::Pairs),
     }
 }
@@ -115,7 +125,7 @@ fn lengths<S: Calls>() {
 }
 
 /// A call writes one kind of map at most: build by engines 1 to 3, expand and shrink the pairs, build by 4 to 6 the values, and no other
-/// call either. Only exact, expand and shrink write scratch.
+/// call either. Only exact, expand, shrink and probe write scratch.
 fn untouched<S: Calls>() {
     for (call, engine) in calls().into_iter().flat_map(|call| (0..=6).map(move |engine| (call, engine))) {
         let before = Slices { map: vec![77; 32], values: vec![77; 16], ..slices() };
@@ -126,6 +136,7 @@ fn untouched<S: Calls>() {
             Call::Build { engine: 1 } | Call::Expand { .. } | Call::Shrink { .. } => [true, false, true],
             Call::Build { engine: 2 | 3 } => [true, false, false],
             Call::Build { engine: 4..=6 } => [false, true, false],
+            Call::Probe => [false, false, true],
             _ => [false; 3],
         };
         assert!(answer == 0 || !(pairs || values), "{about}");

@@ -1,6 +1,7 @@
 //! Scratch of lengths around 4 × W and around W × H: the library beside the model, on sheets of few rows, of few columns and others.
 
 use model::boards::{self, Board};
+use model::points;
 use model::random::Random;
 use model::session::Fields;
 use soak::calls::{Call, Slices};
@@ -15,14 +16,16 @@ fn lengths(w: usize, h: usize) -> Vec<usize> {
     lengths
 }
 
-/// Makes a call of the library with scratch of a length, and of the model: answer, session, and what sheet, maps and scratch hold.
+/// Makes a call of the library with scratch of a length, and of the model: answer, session, and what all slices hold.
 fn compare(board: &Board, call: Call, length: usize, random: &mut Random) {
     let (width, height) = board.sides();
     let session = Fields { opened: true, width, height, ..Fields::FRESH };
     let mut any = |length: usize| (0..length).map(|_| random.next() as i16).collect();
     let (map, scratch) = (any(2 * board.sheet.len()), any(length));
     let values = (0..board.sheet.len()).map(|_| random.next() as u16).collect();
-    let mut slices = Slices { sheet: board.sheet.clone(), map, values, scratch, marks: vec![], out: vec![] };
+    let points = points::any(width, height, random);
+    let distances = vec![7; points.len() / 2];
+    let mut slices = Slices { sheet: board.sheet.clone(), map, values, scratch, points, distances, ..Slices::default() };
     let mut expected = slices.clone();
     let (answer, after) = call.make_within(Library::from(session), &mut slices, random, &board);
     let about = || format!("{call:?} with scratch of {length}: {board:?}");
@@ -31,6 +34,7 @@ fn compare(board: &Board, call: Call, length: usize, random: &mut Random) {
     assert!(slices.map == expected.map, "map: {}", about());
     assert!(slices.values == expected.values, "values: {}", about());
     assert!(slices.scratch == expected.scratch, "scratch: {}", about());
+    assert!(slices == expected, "points, distances or rows: {}", about());
 }
 
 /// All calls that take scratch, with scratch of all these lengths.
@@ -38,7 +42,7 @@ fn check(w: usize, h: usize, random: &mut Random) {
     let board = boards::any(w, h, random);
     let q = random.below(9) as u32;
     let builds = (1..=6).map(|engine| Call::Build { engine });
-    for call in builds.chain([Call::Expand { q }, Call::Shrink { q }]) {
+    for call in builds.chain([Call::Expand { q }, Call::Shrink { q }, Call::Probe]) {
         for length in lengths(w, h) {
             compare(&board, call, length, random);
         }
@@ -70,7 +74,7 @@ fn any_sides() {
 fn largest() {
     let mut random = Random::new(123);
     let board = boards::sprinkled(2_048, 2_048, 5, &mut random);
-    for call in [Call::Build { engine: 1 }, Call::Expand { q: 4 }, Call::Shrink { q: 4 }] {
+    for call in [Call::Build { engine: 1 }, Call::Expand { q: 4 }, Call::Shrink { q: 4 }, Call::Probe] {
         for length in [8_191, 8_192, 8_193, 2_048 * 2_048] {
             compare(&board, call, length, &mut random);
         }

@@ -189,11 +189,11 @@ fn random_lists() {
     let mut found = Answers::new();
     lists::make::<Library>(110, 40_000, &mut found);
     let numbers: Vec<u32> = found.keys().copied().collect();
-    assert_eq!(numbers, [0, 11, 12, 13, 14, 15, 16, 17, 30, 31, 32, 33, 34, 36, 37]);
+    assert_eq!(numbers, [0, 11, 12, 13, 14, 15, 16, 17, 30, 31, 32, 33, 34, 36, 37, 43]);
     for (answer, calls) in &found {
         assert!(calls.values().sum::<u64>() > 2_000, "{answer}: {calls:?}");
     }
-    assert!(found[&0].len() == 11 && found[&0].values().all(|&calls| calls > 2_000), "{:?}", found[&0]);
+    assert!(found[&0].len() == 12 && found[&0].values().all(|&calls| calls > 2_000), "{:?}", found[&0]);
 }
 
 /// Holds so many lists of a session against the claims, without a look at the model. Each of place and run is done, and refused by the gate, more than
@@ -321,6 +321,7 @@ fn lines() {
                     }
                     list.call(Call::Skeleton, &mut random);
                     list.call(Call::Rebuild, &mut random);
+                    answers(&mut list, [(Call::Probe, 0)], &mut random);
                 }
                 answers(&mut list, [(Call::Expand { q: 26 }, 0), (Call::Shrink { q: 10 }, 0)], &mut random);
             }
@@ -343,5 +344,5 @@ fn largest() {
     }
     let diagonal = |direction| Call::Run { direction, count: 2_047 };
     answers(&mut list, [(Call::Place { x: 0, y: 2_047, q: 900 }, 0), (diagonal(7), 0), (diagonal(3), 0), (diagonal(5), 33)], &mut random);
-    answers(&mut list, [(Call::Expand { q: 4 }, 0), (Call::Shrink { q: 1 }, 0), (Call::Rebuild, 31)], &mut random);
+    answers(&mut list, [(Call::Probe, 0), (Call::Expand { q: 4 }, 0), (Call::Shrink { q: 1 }, 0), (Call::Rebuild, 31)], &mut random);
 }

@@ -6,20 +6,20 @@ use std::ffi::{OsStr, OsString};
 
 /// What `-h` and `--help` write.
 pub const USE: &str = "\
-use: bench [ROUNDS [CALL]]      times the calls of the library, or one alone, beside plain Rust
+use: bench [ROUNDS [CALL...]]   times the calls of the library, or some alone, beside plain Rust
      bench --peers [ROUNDS]     times the exact map and the chamfer maps beside other libraries
      bench --memory [ROUNDS]    times nothing but going once through the slices that are lent
      bench --stack              measures how much of the stack each call takes
      bench -h | --help          these lines
 ROUNDS is how often all boards are gone through, from 1; 10 if it is not given.
-CALL is exact, 8SED, 4SED, city-block, chessboard, chamfer, expand, shrink, skeleton, rebuild or run.
+CALL is exact, 8SED, 4SED, city-block, chessboard, chamfer, expand, shrink, skeleton, rebuild, run, probe or probe-row.
 ";
 
 /// What is to be timed, in how many rounds, from 1, or to be measured.
 #[derive(Debug, PartialEq, Eq)]
 pub enum Command {
-    /// The calls beside plain Rust, or one alone.
-    Table { rounds: usize, alone: Option<&'static str> },
+    /// The calls beside plain Rust, or those that are named alone.
+    Table { rounds: usize, calls: Vec<&'static str> },
     /// The exact map and the chamfer maps beside other libraries.
     Peers { rounds: usize },
     /// A pass through the lent slices.
@@ -42,11 +42,10 @@ pub fn parse(words: &[OsString]) -> Result<Command, Stop> {
     }
     let rounds = words.first().map_or(Ok(10), |word| cli::number("ROUNDS", 1..=usize::MAX, word))?;
     match (&options[..], words.get(1..).unwrap_or_default()) {
-        ([], []) => Ok(Command::Table { rounds, alone: None }),
-        ([], [call]) => Ok(Command::Table { rounds, alone: Some(known(call)?) }),
+        ([], calls) => Ok(Command::Table { rounds, calls: calls.iter().map(|call| known(call)).collect::<Result<_, _>>()? }),
         ([option], []) if *option == "--peers" => Ok(Command::Peers { rounds }),
         ([_], []) => Ok(Command::Memory { rounds }),
-        ([], [_, more, ..]) | ([_], [more, ..]) | ([_, more, ..], _) => Err(cli::too_many(more)),
+        ([_], [more, ..]) | ([_, more, ..], _) => Err(cli::too_many(more)),
     }
 }
 
@@ -75,10 +74,11 @@ mod tests {
 
     #[test]
     fn table() {
-        assert_eq!(taken(""), Command::Table { rounds: 10, alone: None });
-        assert_eq!(taken("12"), Command::Table { rounds: 12, alone: None });
+        assert_eq!(taken(""), Command::Table { rounds: 10, calls: vec![] });
+        assert_eq!(taken("12"), Command::Table { rounds: 12, calls: vec![] });
+        assert_eq!(taken("12 exact probe-row"), Command::Table { rounds: 12, calls: vec!["exact", "probe row"] });
         for call in WHATS.map(|what| what.name) {
-            assert_eq!(taken(&format!("1 {}", one_word(call))), Command::Table { rounds: 1, alone: Some(call) });
+            assert_eq!(taken(&format!("1 {}", one_word(call))), Command::Table { rounds: 1, calls: vec![call] });
             assert!(USE.contains(&one_word(call)));
         }
     }

@@ -5,12 +5,14 @@ pub mod plain;
 pub mod plain_calls;
 pub mod plain_chamfer;
 pub mod plain_exact;
+pub mod plain_probe;
 pub mod plain_resize;
 pub mod plain_skeleton;
 
 #[cfg(test)]
 mod tests {
     use super::*;
+    use abi::session::Reply;
     use model::boards::{self, Board};
     use model::chamfer::Weights;
     use model::random::Random;
@@ -112,6 +114,17 @@ mod tests {
         }
     }
 
+    fn check_probe(board: &Board, random: &mut Random) {
+        let &Board { w, h, ref sheet } = board;
+        let points = model::points::any(w as u16, h as u16, random);
+        let mut out = vec![7; points.len() / 2];
+        let mut rows = 7;
+        check_scratch(board, random, |scratch| rows = plain_probe::probe(sheet, &points, scratch, &mut out, w, h));
+        let (points, _) = points.as_chunks();
+        let expected = (model::probe::distances(sheet, w, points), model::probe::rows(points));
+        assert!((out, rows) == expected, "{points:?}: {board:?}");
+    }
+
     /// Runs a check on many boards.
     fn on_boards(seed: u64, check: fn(&Board, &mut Random)) {
         let mut random = Random::new(seed);
@@ -155,14 +168,25 @@ mod tests {
         on_boards(24, check_skeleton);
     }
 
-    /// Slices for a board, now and then of a wrong length. Scratch is about as long as is needed, or about a number a pixel.
+    #[test]
+    fn probe_as_the_model() {
+        on_boards(27, check_probe);
+    }
+
+    /// Slices for a board, now and then of a wrong length. Scratch is about as long as is needed, or about a number a pixel. Points may be
+    /// astray.
     fn any_slices(board: &Board, random: &mut Random) -> Slices {
         let pixels = board.sheet.len();
         let scratch = [scratch_need(board.w), pixels][random.below(2) as usize];
-        let [sheet, pairs, values, scratch, marks, out] = [pixels, pixels, pixels, scratch, pixels, pixels].map(|right| {
-            let wrong = right + 1 - 2 * random.below(2) as usize;
+        let (w, h) = board.sides();
+        let mut points = model::points::any(w, h, random);
+        model::points::astray(&mut points, w, h, random);
+        let lengths = [pixels, pixels, pixels, scratch, pixels, pixels, points.len(), points.len() / 2];
+        let [sheet, pairs, values, scratch, marks, out, numbers, distances] = lengths.map(|right| {
+            let wrong = (right + 1).saturating_sub(2 * random.below(2) as usize);
             [right, wrong][usize::from(random.below(9) == 0)]
         });
+        points.resize(numbers, 0);
         let mut slices = Slices {
             sheet: board.sheet.clone(),
             map: anything(2 * pairs, random),
@@ -170,6 +194,9 @@ mod tests {
             scratch: vec![7; scratch],
             marks: vec![1; marks],
             out: vec![7; out],
+            points,
+            distances: vec![7; distances],
+            rows: 7,
         };
         slices.sheet.resize(sheet, 1);
         slices
@@ -185,7 +212,7 @@ mod tests {
             let engine = [fields.engine, random.below(8) as u16][random.below(2) as usize];
             let q = [random.below(30), 4_194_304 + random.below(2)][random.below(2) as usize] as u32;
             let run = Call::Run { direction: random.below(9) as u16, count: random.below(4) as u16 };
-            for call in [run, Call::Build { engine }, Call::Skeleton, Call::Rebuild, Call::Expand { q }, Call::Shrink { q }] {
+            for call in [run, Call::Probe, Call::Build { engine }, Call::Skeleton, Call::Rebuild, Call::Expand { q }, Call::Shrink { q }] {
                 let mut expected = slices.clone();
                 let found = plain_call(call, fields, &mut slices);
                 assert_eq!(found, call.make(fields, expected.lend()), "{call:?} with {fields:?}: {board:?}");
@@ -196,7 +223,7 @@ mod tests {
 
     /// A call in plain Rust.
     fn plain_call(call: Call, fields: Fields, slices: &mut Slices) -> (u32, Fields) {
-        let Slices { sheet, map, values, scratch, marks, out } = slices;
+        let Slices { sheet, map, values, scratch, marks, out, points, distances, rows } = slices;
         let session = Library::from(fields).0;
         let reply = match call {
             Call::Build { engine } => plain_calls::build(session, sheet, map, values, scratch, engine, &plain_calls::FUSED),
@@ -205,6 +232,11 @@ mod tests {
             Call::Skeleton => plain_calls::skeleton(session, map, out),
             Call::Rebuild => plain_calls::rebuild(session, map, marks, out),
             Call::Run { direction, count } => plain_calls::run(session, map, values, direction, count),
+            Call::Probe => {
+                let probed = plain_calls::probe(session, sheet, points, scratch, distances);
+                *rows = probed.rows;
+                Reply { answer: probed.answer, session: probed.session }
+            }
             _ => panic!("{call:?} is not timed"),
         };
         (reply.answer, Library(reply.session).into())

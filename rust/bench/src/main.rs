@@ -7,7 +7,7 @@ mod command;
 mod peers;
 mod stack;
 
-use abi::session::{Reply, Session};
+use abi::session::{Probed, Reply, Session};
 use bench::plain_calls::{self, FUSED, PLAIN};
 use bench::plain_exact::scratch_need;
 use cli::Stop;
@@ -18,8 +18,8 @@ use std::time::{Duration, Instant};
 
 const SIDES: [usize; 3] = [512, 1_024, 2_048];
 
-/// The session and the slices of a contender, in which it may write anything. Before each call the session has the board's sheet open, and
-/// the sheet is the board's.
+/// The session and the slices of a contender, in which it may write anything, and the rows that it has counted. Before each call the
+/// session has the board's sheet open, and the sheet is the board's.
 struct Slices<'a> {
     session: Session,
     sheet: &'a mut [u8],
@@ -28,13 +28,17 @@ struct Slices<'a> {
     scratch: &'a mut [i16],
     marks: &'a mut [u8],
     out: &'a mut [u8],
+    points: Vec<u16>,
+    distances: Vec<u32>,
+    rows: u32,
 }
 
 impl Slices<'_> {
-    /// Whether both hold the same, but for scratch and marks.
+    /// Whether both hold the same, but for scratch and what is only read.
     fn same(&self, other: &Slices) -> bool {
         let (maps, others) = ((&*self.map, &*self.values), (&*other.map, &*other.values));
-        self.session == other.session && self.sheet == other.sheet && maps == others && self.out == other.out
+        let written = self.sheet == other.sheet && maps == others && self.out == other.out && self.distances == other.distances;
+        written && self.session == other.session && self.rows == other.rows
     }
 }
 
@@ -101,6 +105,33 @@ fn runs(on: &mut Slices, run: fn(Session, &[i16], &[u16], u16, u16) -> Reply) ->
     run(on.session, on.map, on.values, 0, count)
 }
 
+/// Points to probe, one in every row.
+fn in_every_row(on: &mut Slices) {
+    points(on, 0..on.session.height);
+}
+
+/// A hundred, all in one row near the top.
+fn in_one_row(on: &mut Slices) {
+    points(on, std::iter::repeat_n(8, 100));
+}
+
+/// One in each of these rows, and room for their distances.
+fn points(on: &mut Slices, rows: impl Iterator<Item = u16>) {
+    let w = usize::from(on.session.width);
+    on.points = rows.enumerate().flat_map(|(at, y)| [(37 * at % w) as u16, y]).collect();
+    on.distances = vec![0; on.points.len() / 2];
+}
+
+/// A probe of the library or of plain Rust.
+type Probe = fn(Session, &[u8], &[u16], &mut [i16], &mut [u32]) -> Probed;
+
+/// Probes the points.
+fn probe(on: &mut Slices, probe: Probe) -> Reply {
+    let Probed { answer, rows, session } = probe(on.session, on.sheet, &on.points, on.scratch, &mut on.distances);
+    on.rows = rows;
+    Reply { answer, session }
+}
+
 /// A call that looks at every pixel.
 fn whole(board: &Board) -> usize {
     board.sheet.len()
@@ -119,7 +150,20 @@ const fn build<const ENGINE: u16>(name: &'static str, lent: [usize; 2], fused: O
     }
 }
 
-const WHATS: [What; 11] = [
+/// A probe of points. Its time is told by the pixels of the sheet, however many of them it looks at.
+const fn probing(name: &'static str, lent: [usize; 2], ready: fn(&mut Slices)) -> What {
+    What {
+        name,
+        lent,
+        pixels: whole,
+        ready,
+        library: |on| probe(on, Session::probe),
+        plain: |on| probe(on, plain_calls::probe),
+        fused: None,
+    }
+}
+
+const WHATS: [What; 13] = [
     build::<1>("exact", [5, 8], Some(fused_build::<1>)),
     build::<2>("8SED", [5, 0], Some(fused_build::<2>)),
     build::<3>("4SED", [5, 0], Some(fused_build::<3>)),
@@ -171,6 +215,9 @@ const WHATS: [What; 11] = [
         plain: |on| runs(on, plain_calls::run),
         fused: None,
     },
+    // a point takes 8 bytes; there are as many as columns, or a hundred, which are not counted
+    probing("probe", [1, 16], in_every_row),
+    probing("probe row", [1, 8], in_one_row),
 ];
 
 /// The memory of one contender, enough for boards up to some side.
@@ -190,7 +237,7 @@ impl Memory {
         Memory { sheet: bytes.clone(), map, values, scratch, marks: bytes.clone(), out: bytes }
     }
 
-    /// The slices for a board, with its sheet, and no more scratch than is needed. The others are as they were.
+    /// The slices for a board, with its sheet, no more scratch than is needed, and no points. The others are as they were.
     fn lend(&mut self, board: &Board) -> Slices<'_> {
         let &Board { w, h, ref sheet } = board;
         self.sheet[..w * h].copy_from_slice(sheet);
@@ -203,6 +250,9 @@ impl Memory {
             scratch: &mut self.scratch[..scratch_need(w)],
             marks: &mut self.marks[..w * h],
             out: &mut self.out[..w * h],
+            points: Vec::new(),
+            distances: Vec::new(),
+            rows: 0,
         }
     }
 }
@@ -317,10 +367,10 @@ fn cell(number: Option<f64>) -> String {
     number.map_or("–".into(), |number| format!("{number:.2}"))
 }
 
-/// The lines of the table, each with the shortest time of so many rounds.
-fn timed(rounds: usize, alone: Option<&str>) -> Vec<Line> {
+/// The lines of the table, each with the shortest time of so many rounds: those of some calls, or of all if none is named.
+fn timed(rounds: usize, calls: &[&str]) -> Vec<Line> {
     let mut lines = Vec::new();
-    for what in WHATS.iter().filter(|what| alone.is_none_or(|alone| alone == what.name)) {
+    for what in WHATS.iter().filter(|what| calls.is_empty() || calls.contains(&what.name)) {
         for name in boards::BENCHMARK {
             lines.extend(SIDES.map(|side| Line::new(what, name, side)));
         }
@@ -346,7 +396,7 @@ fn main() -> ExitCode {
 /// The table that is asked for.
 fn time(command: Command) -> Result<String, Stop> {
     match command {
-        Command::Table { rounds, alone } => Ok(table(rounds, &timed(rounds, alone))),
+        Command::Table { rounds, calls } => Ok(table(rounds, &timed(rounds, &calls))),
         Command::Peers { rounds } => {
             let boards = boards::BENCHMARK.iter().flat_map(|&name| SIDES.map(|side| (name, boards::benchmark(name, side))));
             peers::table(rounds, boards).map_err(|error| Stop::Failed(format!("the other libraries cannot be timed: {error}")))
@@ -356,15 +406,23 @@ fn time(command: Command) -> Result<String, Stop> {
     }
 }
 
+/// The library's time for the exact map of a line's board, in nanoseconds a pixel. None if that is not timed, or the line has other pixels.
+fn exact_of(line: &Line, lines: &[Line]) -> Option<f64> {
+    let key = |line: &Line| (line.name, line.pixels);
+    lines.iter().find(|exact| exact.what == "exact" && key(exact) == key(line))?.nanoseconds(0)
+}
+
 /// The lines under their head.
 fn table(rounds: usize, lines: &[Line]) -> String {
     let mut text = format!("ns a pixel, the shortest of {rounds} runs of each (twice as many at 1,024, four times at 512)\n");
     text += "each ratio is the library's time to the one before it; plain is the same call in plain Rust, and fused a tuned variant:\n";
     text += "exact works a column's cost out when it is asked for; the scans take the row before and the sweep to the right in one pass,\n";
-    text += "test only a row's first pixel for a label, and start a sweep at the first labelled pixel; a run's pixels are those it comes to\n\n";
+    text += "test only a row's first pixel for a label, and start a sweep at the first labelled pixel; to exact is the library's time to\n";
+    text += "that of its exact map of the board, if this is timed too; a run's pixels are those it comes to, and a probe's those of the\n";
+    text += "sheet, with a point in every row, or for probe row a hundred in row 8\n\n";
     text += &format!(
-        "{:10}  {:11}  {:>4}  {:>7}  {:>5}  {:>5}  {:>5}  {:>5}  {:>7}  library 2,048 / 512\n",
-        "call", "board", "side", "library", "plain", "ratio", "fused", "ratio", "lent"
+        "{:10}  {:11}  {:>4}  {:>7}  {:>5}  {:>5}  {:>5}  {:>5}  {:>8}  {:>7}  library 2,048 / 512\n",
+        "call", "board", "side", "library", "plain", "ratio", "fused", "ratio", "to exact", "lent"
     );
     for sides in lines.chunks(SIDES.len()) {
         for line in sides {
@@ -374,7 +432,7 @@ fn table(rounds: usize, lines: &[Line]) -> String {
             for number in [plain, over(plain), fused, over(fused)] {
                 text += &format!("  {:>5}", cell(number));
             }
-            text += &format!("  {:>4.1} MB", line.bytes() as f64 / 1e6);
+            text += &format!("  {:>8}  {:>4.1} MB", cell(over(exact_of(line, lines))), line.bytes() as f64 / 1e6);
             if line.board.w == 2_048 {
                 text += &format!("  {}", cell(over(sides[0].nanoseconds(0))));
             }

@@ -1,7 +1,7 @@
 //! The calls of the session in plain safe Rust: what the library tests before its work, in the library's order, and then the work.
 
-use crate::{fused, plain, plain_chamfer, plain_exact, plain_resize, plain_skeleton};
-use abi::session::{Closest, Reply, Session};
+use crate::{fused, plain, plain_chamfer, plain_exact, plain_probe, plain_resize, plain_skeleton};
+use abi::session::{Closest, Probed, Reply, Session};
 
 /// The functions that write the maps of pairs.
 pub struct Engines {
@@ -125,6 +125,31 @@ pub fn rebuild(s: Session, map: &[i16], marks: &[u8], out: &mut [u8]) -> Reply {
         plain_skeleton::rebuild(map, marks, out, w, h);
     }
     Reply { answer, session: s }
+}
+
+/// Writes the true squared distances of points.
+pub fn probe(s: Session, sheet: &[u8], points: &[u16], scratch: &mut [i16], out: &mut [u32]) -> Probed {
+    let (w, h) = sides(&s);
+    let short = scratch.len() < plain_exact::scratch_need(w);
+    let answer = probe_answer(&s, points, sheet.len() != w * h || short || points.len() != 2 * out.len());
+    let rows = if answer == 0 { plain_probe::probe(sheet, points, scratch, out, w, h) } else { 0 };
+    Probed { answer, rows, session: s }
+}
+
+/// The answer of probe; `wrong` says that a lent slice has a wrong length.
+fn probe_answer(s: &Session, points: &[u16], wrong: bool) -> u32 {
+    let (points, _) = points.as_chunks();
+    if !is_active(s) {
+        30
+    } else if wrong {
+        12
+    } else if points.iter().any(|&[x, y]| x >= s.width || y >= s.height) {
+        16
+    } else if !points.is_sorted_by_key(|&[_, y]| y) {
+        43
+    } else {
+        0
+    }
 }
 
 /// Steps to the right and down, clockwise from east.

@@ -8,6 +8,12 @@ pub(crate) type Pixel = [i16; 2];
 
 pub(crate) const UNLABELLED: Pixel = [-32_768; 2];
 
+/// The size of a pixel. That of an unlabelled one is 2³¹, above all others.
+pub(crate) fn size([dx, dy]: Pixel) -> u32 {
+    let (dx, dy) = (i32::from(dx), i32::from(dy));
+    (dx * dx) as u32 + (dy * dy) as u32
+}
+
 /// The longest side.
 pub(crate) const SIDE: usize = 2_048;
 
@@ -20,15 +26,7 @@ pub fn scratch_need(w: usize) -> usize {
 pub fn exact(sheet: &[u8], map: &mut [i16], scratch: &mut [i16], w: usize, h: usize) {
     let mut costs = [0; SIDE];
     let mut stack = [Entry::default(); SIDE];
-    work(sheet, map, scratch, w, h, |row, ways| {
-        solve(row, ways, &mut stack, |part, stack| {
-            let costs = &mut costs[..part.len()];
-            for (cost, &way) in costs.iter_mut().zip(&ways[part]) {
-                *cost = cost_of(way);
-            }
-            envelope(costs.iter().copied(), stack)
-        });
-    });
+    work(sheet, map, scratch, w, h, |row, ways| solve_by_costs(row, ways, &mut costs, &mut stack));
 }
 
 /// The same, a column's cost worked out only when the envelope asks for it.
@@ -73,6 +71,17 @@ fn solve(row: &mut [Pixel], ways: &[i16], stack: &mut [Entry], mut envelope: imp
     }
 }
 
+/// The same, with the costs of a part's columns worked out before its envelope.
+pub(crate) fn solve_by_costs(row: &mut [Pixel], ways: &[i16], costs: &mut [u32; SIDE], stack: &mut [Entry; SIDE]) {
+    solve(row, ways, stack, |part, stack| {
+        let costs = &mut costs[..part.len()];
+        for (cost, &way) in costs.iter_mut().zip(&ways[part]) {
+            *cost = cost_of(way);
+        }
+        envelope(costs.iter().copied(), stack)
+    });
+}
+
 /// Whether all these pixels are copper. Without a jump out of the loop, so that they are looked at all at once.
 fn is_copper(ways: &[i16]) -> bool {
     ways.iter().fold(true, |copper, &way| copper & (way == 0))
@@ -114,7 +123,7 @@ fn farther(copper: bool, from: i16) -> i16 {
 }
 
 /// The way of a column without copper.
-const NONE: i16 = -32_768;
+pub(crate) const NONE: i16 = -32_768;
 
 /// The cost of a column without copper.
 pub(crate) const NO_SITE: u32 = u32::MAX;

@@ -1,6 +1,6 @@
 //! Skeleton and rebuild in plain safe Rust by the library's algorithms.
 
-use crate::plain_exact::{envelope, Entry, Pixel, NO_SITE, SIDE, UNLABELLED};
+use crate::plain_exact::{envelope, size, Entry, Pixel, NO_SITE, SIDE, UNLABELLED};
 
 /// The size of an unlabelled pixel, above all others.
 const NONE: u32 = 1 << 31;
@@ -34,11 +34,6 @@ const fn table(corner: bool) -> [u8; 400] {
         n -= 1;
     }
     differences
-}
-
-fn size([dx, dy]: Pixel) -> u32 {
-    let (dx, dy) = (i32::from(dx), i32::from(dy));
-    (dx * dx) as u32 + (dy * dy) as u32
 }
 
 /// A row of the map: its pixels' sizes, 0 where unlabelled, and the sizes that they take off at their sides and corners. A 0 stands for off the

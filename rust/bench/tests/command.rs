@@ -10,7 +10,7 @@ fn bench(words: &[&str]) -> Command {
 #[test]
 fn help() {
     for words in [&["-h"][..], &["--help"], &["3", "--help"], &["--peers", "-h"], &["abc", "-h"]] {
-        assert!(written(&mut bench(words)).starts_with(b"use: bench [ROUNDS [CALL]] "));
+        assert!(written(&mut bench(words)).starts_with(b"use: bench [ROUNDS [CALL...]] "));
     }
 }
 
@@ -23,11 +23,11 @@ fn refused_words() {
         let rounds = words[words.len() - 1];
         assert_stops(&mut bench(words), 2, &format!("ROUNDS is a number from 1 to {}, not `{rounds}`\nuse: ", usize::MAX));
     }
-    let calls = "exact, 8SED, 4SED, city-block, chessboard, chamfer, expand, shrink, skeleton, rebuild, run";
-    assert_stops(&mut bench(&["1", "saw"]), 2, &format!("CALL is one of {calls}, not `saw`\nuse: "));
-    for words in [["1", "skeleton", "exact"], ["--peers", "5", "exact"]] {
-        assert_stops(&mut bench(&words), 2, "`exact` is one word too many\nuse: ");
+    let calls = "exact, 8SED, 4SED, city-block, chessboard, chamfer, expand, shrink, skeleton, rebuild, run, probe, probe-row";
+    for words in [&["1", "saw"][..], &["1", "exact", "saw"]] {
+        assert_stops(&mut bench(words), 2, &format!("CALL is one of {calls}, not `saw`\nuse: "));
     }
+    assert_stops(&mut bench(&["--peers", "5", "exact"]), 2, "`exact` is one word too many\nuse: ");
     assert_stops(&mut bench(&["--stack", "5"]), 2, "`5` is one word too many\nuse: ");
     for words in [["--peers", "--memory"], ["--stack", "--memory"]] {
         assert_stops(&mut bench(&words), 2, "`--memory` is one option too many\nuse: ");
@@ -39,7 +39,7 @@ fn refused_words() {
 fn stack() {
     let text = String::from_utf8(written(&mut bench(&["--stack"]))).unwrap();
     let calls: Vec<(&str, &str)> = text.lines().skip(2).map(|line| line.rsplit_once(' ').expect("two columns")).collect();
-    assert_eq!(calls.len(), 19, "{text}");
+    assert_eq!(calls.len(), 20, "{text}");
     assert!(calls.iter().all(|(_, bytes)| bytes.parse().is_ok_and(|bytes: u32| (1..100_000).contains(&bytes))), "{text}");
 }
 

@@ -41,6 +41,10 @@ pub trait Calls: Copy + From<Fields> + Into<Fields> {
     /// Writes what the marked pixels of the current exact map cover.
     fn rebuild(self, map: &[i16], marks: &[u8], out: &mut [u8]) -> (u32, Self);
 
+    /// Writes the true squared distances of points, x then y, whose rows do not decrease. Behind the answer number it hands back how many
+    /// different rows they have.
+    fn probe(self, sheet: &[u8], points: &[u16], scratch: &mut [i16], out: &mut [u32]) -> (u32, u32, Self);
+
     /// The part of the map that holds row y, or an empty part from its start.
     fn map_row(self, map: &[i16], y: u16) -> &[i16];
 }

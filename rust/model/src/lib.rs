@@ -9,6 +9,8 @@ pub mod exact;
 pub mod job;
 pub mod maps;
 pub mod nearest;
+pub mod points;
+pub mod probe;
 pub mod random;
 pub mod resize;
 pub mod scans;

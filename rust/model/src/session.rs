@@ -4,7 +4,7 @@
 use crate::calls::Calls;
 use crate::scans::{self, UNLABELLED};
 use crate::skeleton::{self, size};
-use crate::{chamfer, exact, resize};
+use crate::{chamfer, exact, probe, resize};
 
 /// The longest side of a sheet.
 const MAX_SIDE: u16 = 2_048;
@@ -16,7 +16,7 @@ const MAX_COUNT: u16 = 2_047;
 /// The eight directions, clockwise from east, as steps to the right and down.
 const DIRECTIONS: [(i64, i64); 8] = [(1, 0), (1, 1), (0, 1), (-1, 1), (-1, 0), (-1, -1), (0, -1), (1, -1)];
 
-/// How many scratch numbers exact, expand and shrink need on a sheet of `w` columns, however many rows it has.
+/// How many scratch numbers exact, expand, shrink and probe need on a sheet of `w` columns, however many rows it has.
 pub fn scratch_need(w: usize) -> usize {
     4 * w
 }
@@ -450,6 +450,24 @@ impl Calls for Fields {
     fn rebuild(self, map: &[i16], marks: &[u8], out: &mut [u8]) -> (u32, Fields) {
         let pixels = out.len();
         self.read_map(map, out, &[pixels, marks.len()], |map, w, h| skeleton::rebuild(map, marks, w, h))
+    }
+
+    fn probe(self, sheet: &[u8], points: &[u16], scratch: &mut [i16], out: &mut [u32]) -> (u32, u32, Fields) {
+        let Some(open) = self.read() else { return (30, 0, self) };
+        let need = scratch_need(open.w.into());
+        let fit = sheet.len() == open.pixels() && scratch.len() >= need && points.len() == 2 * out.len();
+        let (points, _) = points.as_chunks();
+        let answer = answer(&[
+            (12, !fit),
+            (16, points.iter().any(|&[x, y]| !open.holds(x.into(), y.into()))),
+            (43, points.windows(2).any(|two| two[1][1] < two[0][1])),
+        ]);
+        if answer != 0 {
+            return (answer, 0, self);
+        }
+        out.copy_from_slice(&probe::distances(sheet, open.w.into(), points));
+        scratch[..need].fill(0);
+        (0, probe::rows(points), self)
     }
 
     fn map_row(self, map: &[i16], y: u16) -> &[i16] {

@@ -1,7 +1,7 @@
 //! The plain board of document 01 with the pixels visited of document 02, and what the lists of calls promise of it. It is fed each call's
-//! numbers and its answer alone, and all distances are by brute force.
+//! numbers, points and answer alone, and all distances are by brute force.
 
-use crate::calls::Call;
+use crate::calls::{Call, Slices};
 use model::session::Fields;
 use model::skeleton::size;
 use std::collections::BTreeSet;
@@ -31,6 +31,8 @@ pub struct Left<'a> {
     pub map: &'a [i16],
     /// The values.
     pub values: &'a [u16],
+    /// What the call was lent, as the call left it.
+    pub slices: &'a Slices,
 }
 
 impl Left<'_> {
@@ -147,7 +149,7 @@ impl Board {
                 let bare: Vec<Pixel> = self.framed().filter(|pixel| !self.copper.contains(pixel)).collect();
                 self.copper.retain(|&pixel| bare.iter().all(|&bare| apart(bare, pixel) > q.into()));
             }
-            Call::Skeleton | Call::Rebuild => {}
+            Call::Skeleton | Call::Rebuild | Call::Probe => {}
         }
         if let Call::Paint { .. } | Call::Erase { .. } | Call::Expand { .. } | Call::Shrink { .. } = call {
             self.engine = 0;
@@ -160,8 +162,8 @@ impl Board {
 
     /// Feeds the board a call and its answer, and asserts what is promised of every call of a list: a cutter that is brought down or run
     /// comes to no pixel with copper within q, and on the way of a run to no such point; one that is turned away with 34 had a pixel with
-    /// copper within q, or on the quick maps and the drafts within the engine's fraction of it; session and sheet agree with the board; the
-    /// closest approach is recorded.
+    /// copper within q, or on the quick maps and the drafts within the engine's fraction of it; a probe tells the distances of its points;
+    /// session and sheet agree with the board; the closest approach is recorded.
     pub fn feed(&mut self, call: Call, answer: u32, left: &Left, about: &impl Debug) {
         let tested = self.tested(call);
         let on_sheet = |(x, y): Pixel| (0..self.w.into()).contains(&x) && (0..self.h.into()).contains(&y);
@@ -177,6 +179,9 @@ impl Board {
                         assert!(!self.near_between(from, to, q.into()), "copper within {q} between {from:?} and {to:?}: {about:?}");
                     }
                 }
+                if call == Call::Probe {
+                    self.probed(left.slices, about);
+                }
                 self.done(call);
             }
             34 => {
@@ -187,6 +192,17 @@ impl Board {
         }
         self.agrees(left.session, left.sheet, about);
         self.approached(left, about);
+    }
+
+    /// Asserts that a probe has told for each point the least squared distance to copper, or without copper the largest number that there
+    /// is, and in how many rows the points are.
+    fn probed(&self, slices: &Slices, about: &impl Debug) {
+        let points: Vec<Pixel> = slices.points.chunks(2).map(|point| (point[0].into(), point[1].into())).collect();
+        let distance = |&point: &Pixel| self.copper.iter().map(|&copper| apart(copper, point)).min().unwrap_or(u32::MAX.into());
+        let told = slices.distances.iter().map(|&number| u64::from(number));
+        assert!(points.iter().map(distance).eq(told), "the distances {:?}: {about:?}", slices.distances);
+        let rows: BTreeSet<i64> = points.iter().map(|&(_, y)| y).collect();
+        assert_eq!(slices.rows as usize, rows.len(), "the rows: {about:?}");
     }
 
     /// Asserts that the closest approach is the least size on the map of the pixels visited. On an exact map it is the least squared distance

@@ -74,10 +74,12 @@ pub enum Call {
     Skeleton,
     /// Writes what marked pixels cover.
     Rebuild,
+    /// Writes the distances of points.
+    Probe,
 }
 
-/// The slices of a call. Each kind of call is lent some of them.
-#[derive(Clone, PartialEq, Eq)]
+/// The slices of a call, of which each kind of call is lent some, and the number of rows that a probe hands back.
+#[derive(Clone, Default, PartialEq, Eq)]
 pub struct Slices {
     /// The sheet, a byte a pixel.
     pub sheet: Vec<u8>,
@@ -91,6 +93,12 @@ pub struct Slices {
     pub marks: Vec<u8>,
     /// What skeleton and rebuild write.
     pub out: Vec<u8>,
+    /// The points that probe reads, x then y.
+    pub points: Vec<u16>,
+    /// What probe writes, a number a point.
+    pub distances: Vec<u32>,
+    /// In how many rows they are, as probe tells it.
+    pub rows: u32,
 }
 
 /// The slices of a call while they are lent.
@@ -101,13 +109,16 @@ pub struct Lending<'a> {
     scratch: &'a mut [i16],
     marks: &'a mut [u8],
     out: &'a mut [u8],
+    points: &'a mut [u16],
+    distances: &'a mut [u32],
+    rows: &'a mut u32,
 }
 
 impl Slices {
     /// Lends all of them.
     pub fn lend(&mut self) -> Lending<'_> {
-        let Slices { sheet, map, values, scratch, marks, out } = self;
-        Lending { sheet, map, values, scratch, marks, out }
+        let Slices { sheet, map, values, scratch, marks, out, points, distances, rows } = self;
+        Lending { sheet, map, values, scratch, marks, out, points, distances, rows }
     }
 }
 
@@ -129,17 +140,18 @@ impl Call {
             Call::Shrink { .. } => "shrink",
             Call::Skeleton => "skeleton",
             Call::Rebuild => "rebuild",
+            Call::Probe => "probe",
         }
     }
 
     /// Whether it is lent scratch.
     pub fn takes_scratch(self) -> bool {
-        matches!(self, Call::Build { .. } | Call::Expand { .. } | Call::Shrink { .. })
+        matches!(self, Call::Build { .. } | Call::Expand { .. } | Call::Shrink { .. } | Call::Probe)
     }
 
-    /// Makes the call of a session with these slices.
+    /// Makes the call of a session with these slices. The rows of a probe stand among them afterwards.
     pub fn make<S: Calls>(self, session: S, slices: Lending) -> (u32, S) {
-        let Lending { sheet, map, values, scratch, marks, out } = slices;
+        let Lending { sheet, map, values, scratch, marks, out, points, distances, rows } = slices;
         match self {
             Call::Open { w, h } => session.open(sheet, w, h),
             Call::Paint { x, y, w, h } => session.paint(sheet, x, y, w, h),
@@ -152,6 +164,11 @@ impl Call {
             Call::Shrink { q } => session.shrink(sheet, map, scratch, q),
             Call::Skeleton => session.skeleton(map, out),
             Call::Rebuild => session.rebuild(map, marks, out),
+            Call::Probe => {
+                let (answer, found, session) = session.probe(sheet, points, scratch, distances);
+                *rows = found;
+                (answer, session)
+            }
         }
     }
 
@@ -163,6 +180,8 @@ impl Call {
         let mut scratch = Lent::around(&slices.scratch, MARGIN, || random.next() as i16);
         let mut marks = Lent::around(&slices.marks, MARGIN, || random.next() as u8);
         let mut out = Lent::around(&slices.out, MARGIN, || random.next() as u8);
+        let mut points = Lent::around(&slices.points, MARGIN, || random.next() as u16);
+        let mut distances = Lent::around(&slices.distances, MARGIN, || random.next() as u32);
         let lending = Lending {
             sheet: sheet.slice(),
             map: map.slice(),
@@ -170,6 +189,9 @@ impl Call {
             scratch: scratch.slice(),
             marks: marks.slice(),
             out: out.slice(),
+            points: points.slice(),
+            distances: distances.slice(),
+            rows: &mut slices.rows,
         };
         let made = self.make(session, lending);
         take_back(&mut slices.sheet, &sheet, "sheet", about);
@@ -178,6 +200,8 @@ impl Call {
         take_back(&mut slices.scratch, &scratch, "scratch", about);
         take_back(&mut slices.marks, &marks, "marks", about);
         take_back(&mut slices.out, &out, "output", about);
+        take_back(&mut slices.points, &points, "points", about);
+        take_back(&mut slices.distances, &distances, "distances", about);
         made
     }
 }

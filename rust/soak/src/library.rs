@@ -1,6 +1,6 @@
 //! The library's session behind the trait of calls.
 
-use abi::session::{Closest, Reply, Session};
+use abi::session::{Closest, Probed, Reply, Session};
 use model::calls::Calls;
 use model::session::Fields;
 
@@ -74,6 +74,11 @@ impl Calls for Library {
 
     fn rebuild(self, map: &[i16], marks: &[u8], out: &mut [u8]) -> (u32, Self) {
         told(self.0.rebuild(map, marks, out))
+    }
+
+    fn probe(self, sheet: &[u8], points: &[u16], scratch: &mut [i16], out: &mut [u32]) -> (u32, u32, Self) {
+        let Probed { answer, rows, session } = self.0.probe(sheet, points, scratch, out);
+        (answer, rows, Library(session))
     }
 
     fn map_row(self, map: &[i16], y: u16) -> &[i16] {

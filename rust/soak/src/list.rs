@@ -3,11 +3,11 @@
 use crate::board::{Board, Left};
 use crate::calls::{Call, Slices};
 use model::calls::Calls;
-use model::chamfer;
 use model::random::Random;
 use model::scans::UNLABELLED;
 use model::session::{kind, scratch_need, Fields, Kind};
 use model::skeleton::size;
+use model::{chamfer, points};
 use std::collections::BTreeMap;
 use std::fmt;
 
@@ -51,10 +51,11 @@ impl<S: Calls> fmt::Debug for Story<'_, S> {
     fn fmt(&self, f: &mut fmt::Formatter<'_>) -> fmt::Result {
         let Story { list, call, slices } = self;
         writeln!(f, "{call:?} in the list of seed {}, with {:?}", list.seed, list.session())?;
-        let Slices { sheet, map, values, scratch, marks, out } = slices;
-        writeln!(f, "lengths {:?}", [sheet.len(), map.len(), values.len(), scratch.len(), marks.len(), out.len()])?;
+        let Slices { sheet, map, values, scratch, marks, out, points, distances, rows: _ } = slices;
+        let lengths = [sheet.len(), map.len(), values.len(), scratch.len(), marks.len(), out.len(), points.len(), distances.len()];
+        writeln!(f, "lengths {lengths:?}")?;
         if sheet.len() <= 200 {
-            writeln!(f, "sheet {sheet:?}\nmap {map:?}\nvalues {values:?}\nmarks {marks:?}")?;
+            writeln!(f, "sheet {sheet:?}\nmap {map:?}\nvalues {values:?}\nmarks {marks:?}\npoints {points:?}")?;
         }
         list.made.iter().try_for_each(|(call, answer)| writeln!(f, "{answer} {call:?}"))
     }
@@ -111,17 +112,27 @@ impl<S: Calls> List<S> {
             _ => (0, 0),
         };
         let sparse = 1 + random.below(9);
+        let points = if call == Call::Probe { self.points(random) } else { Vec::new() };
         Slices {
             scratch: (0..numbers).map(|_| random.next() as i16).collect(),
             marks: (0..bytes).map(|_| if random.below(sparse) == 0 { random.next() as u8 } else { 0 }).collect(),
             out: (0..bytes).map(|_| random.next() as u8).collect(),
+            distances: points.chunks(2).map(|_| random.next() as u32).collect(),
+            rows: random.next() as u32,
             sheet,
             map,
             values,
+            points,
         }
     }
 
-    /// How many scratch numbers exact, expand and shrink need. A session wider than any sheet is taken as the widest.
+    /// Points of the sheet, in order. Sides that no sheet has are taken as the nearest that one may have.
+    fn points(&self, random: &mut Random) -> Vec<u16> {
+        let [w, h] = [self.session().width, self.session().height].map(|side| side.clamp(1, 2_048));
+        points::any(w, h, random)
+    }
+
+    /// How many scratch numbers exact, expand, shrink and probe need. A session wider than any sheet is taken as the widest.
     pub fn scratch_need(&self) -> usize {
         scratch_need(self.session().width.min(2_048).into())
     }
@@ -152,7 +163,7 @@ impl<S: Calls> List<S> {
         }
         if self.check != Check::Model {
             let mut board = std::mem::take(&mut self.board);
-            let left = Left { session: &session.into(), sheet: &self.sheet, map: &self.map, values: &self.values };
+            let left = Left { session: &session.into(), sheet: &self.sheet, map: &self.map, values: &self.values, slices: &after };
             board.feed(call, answer, &left, &Story { list: self, call, slices: &slices });
             self.board = board;
         }
@@ -171,6 +182,9 @@ impl<S: Calls> List<S> {
         same("scratch", &after.scratch, &expected.scratch, story);
         same("marks", &after.marks, &expected.marks, story);
         same("output", &after.out, &expected.out, story);
+        same("points", &after.points, &expected.points, story);
+        same("distances", &after.distances, &expected.distances, story);
+        assert_eq!(after.rows, expected.rows, "rows: {story:?}");
     }
 
     /// Asserts that a map row is the model's part of the lent map: that part itself and no copy, also where it is empty.

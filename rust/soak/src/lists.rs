@@ -2,10 +2,10 @@
 
 use crate::calls::{Call, Slices};
 use crate::list::{Answers, Check, List};
-use model::boards;
 use model::calls::Calls;
 use model::random::Random;
 use model::session::Fields;
+use model::{boards, points};
 
 /// Makes a number of random lists, half of them tampered with between the calls and half not, and counts the calls by their answers. Each
 /// list has a seed of its own, drawn from this one, which a failure names.
@@ -61,7 +61,7 @@ fn any_call<S: Calls>(list: &List<S>, random: &mut Random) -> Call {
         _ if !session.lowered => &[4, 4, 4, 4, 9, 10],
         _ => &[4, 5, 5, 5, 5, 5],
     };
-    let kind = if random.below(4) > 0 { onwards[random.below(onwards.len() as u64) as usize] } else { random.below(11) };
+    let kind = if random.below(4) > 0 { onwards[random.below(onwards.len() as u64) as usize] } else { random.below(13) };
     match kind {
         0 => {
             let [w, h] = sides(random);
@@ -82,7 +82,9 @@ fn any_call<S: Calls>(list: &List<S>, random: &mut Random) -> Call {
         7 => Call::Expand { q: resize_q(random) },
         8 => Call::Shrink { q: resize_q(random) },
         9 => Call::Skeleton,
-        _ => Call::Rebuild,
+        10 => Call::Rebuild,
+        // twice as often as another, for no list needs one to lead on
+        _ => Call::Probe,
     }
 }
 
@@ -201,13 +203,17 @@ fn resize_q(random: &mut Random) -> u32 {
     seldom(6, &[25, 400, 4_194_304, 4_194_305, 4_294_967_295], usual, random) as u32
 }
 
-/// Slices for a call. Scratch has a length around what is needed or around a number a pixel now and then, so that it may be too short. To
-/// open a sheet some have a wrong length now and then, and always if the sheet would be large; or the maps are the former ones.
+/// Slices for a call. Scratch has a length around what is needed or around a number a pixel now and then, so that it may be too short. The
+/// points of a probe may be astray. To open a sheet some have a wrong length now and then, and always if the sheet would be large; or the
+/// maps are the former ones.
 fn any_slices<S: Calls>(list: &List<S>, call: Call, random: &mut Random) -> Slices {
     let Call::Open { w, h } = call else {
         let mut slices = list.slices(call, random);
         if call.takes_scratch() && random.below(3) == 0 {
             slices.scratch.resize(near_length(list, random), 7);
+        }
+        if call == Call::Probe {
+            astray(&list.session(), &mut slices, random);
         }
         return slices;
     };
@@ -231,8 +237,22 @@ fn any_slices<S: Calls>(list: &List<S>, call: Call, random: &mut Random) -> Slic
 
 /// A length of scratch around what is needed, or around a number a pixel.
 fn near_length<S: Calls>(list: &List<S>, random: &mut Random) -> usize {
-    let length = [list.scratch_need(), list.sheet.len()][random.below(2) as usize];
+    around([list.scratch_need(), list.sheet.len()][random.below(2) as usize], random)
+}
+
+/// A length, one more or one less.
+fn around(length: usize, random: &mut Random) -> usize {
     (length + 1).saturating_sub(random.between(0, 2))
+}
+
+/// Puts points of a probe off the sheet or out of order now and then, or makes a number too many or too few of them or of their distances.
+fn astray(session: &Fields, slices: &mut Slices, random: &mut Random) {
+    points::astray(&mut slices.points, session.width, session.height, random);
+    match random.below(16) {
+        0 => slices.points.resize(around(slices.points.len(), random), 0),
+        1 => slices.distances.resize(around(slices.distances.len(), random), 7),
+        _ => {}
+    }
 }
 
 /// Lends a slice of a wrong length, or several.
@@ -244,13 +264,15 @@ fn misfit(slices: &mut Slices, random: &mut Random) {
         3 => [0, right / 2, random.between(0, 40)][random.below(3) as usize],
         _ => right,
     };
-    let Slices { sheet, map, values, scratch, marks, out } = slices;
+    let Slices { sheet, map, values, scratch, marks, out, points, distances, rows: _ } = slices;
     sheet.resize(length(sheet.len()), 1);
     map.resize(length(map.len()), 1);
     values.resize(length(values.len()), 1);
     scratch.resize(length(scratch.len()), 1);
     marks.resize(length(marks.len()), 1);
     out.resize(length(out.len()), 1);
+    points.resize(length(points.len()), 1);
+    distances.resize(length(distances.len()), 1);
 }
 
 /// Changes session, maps and sheet now and then.
@@ -389,6 +411,30 @@ mod tests {
                 let calls = found.get(&(engine, name, answer)).copied().unwrap_or(0);
                 assert!(calls > 50, "engine {engine}, {name}: {calls} with {answer}");
             }
+        }
+    }
+
+    /// With the cutter up and down a probe is often done, and often refused for each of its reasons; at times there are two.
+    #[test]
+    fn probes() {
+        let mut random = Random::new(3);
+        let mut found: BTreeMap<(bool, u32, bool), u32> = BTreeMap::new();
+        for seed in 0..6_000 {
+            let mut list = List::<Fields>::new(Check::Both, seed, &mut random);
+            for _ in 0..30 {
+                let (lowered, call) = (list.session().lowered, any_call(&list, &mut random));
+                let slices = any_slices(&list, call, &mut random);
+                let descends = slices.points.as_chunks().0.windows(2).any(|two: &[[u16; 2]]| two[1][1] < two[0][1]);
+                let (answer, _) = list.lend(call, slices, &mut random);
+                if call == Call::Probe {
+                    *found.entry((lowered, answer, descends)).or_default() += 1;
+                }
+            }
+        }
+        let ways = [(0, false), (12, false), (12, true), (16, false), (16, true), (43, true)];
+        for (lowered, (answer, descends)) in [false, true].into_iter().flat_map(|lowered| ways.map(|way| (lowered, way))) {
+            let calls = found.get(&(lowered, answer, descends)).copied().unwrap_or(0);
+            assert!(calls > 50, "lowered {lowered}, descends {descends}: {calls} with {answer}");
         }
     }
 }

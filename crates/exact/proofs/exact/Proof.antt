@@ -1,25 +1,14 @@
 -- `exact::exact` meets its contract: over the ways of the columns the rows solved are the exact map (`solved-exact`). What is cleared in scratch covers the row
 -- that it held (`row-cleared`).
 -- Assumes nothing.
-use mathlib.Core.Path.{_≡_, sym, ap, _∙_}
-use mathlib.Core.List.{List, _++_}
-use Prim.Native.Nat.{ℕ, _+_, _*_}
+use mathlib.Core.Path.{sym, _∙_}
 use native.Mathlib.Omega.{arith}
-use lib.IntN.{ℤ}
-use lib.ListN.{length, drop}
-use lib.Seq.{length-take-le, drop-append-add, drop-drop}
+use lib.Seq.{length-take-le}
 use borrow.Author.Needs.{needs}
-use Rattle.exact.specs.Nearest.{scratchLeft}
+use Rattle.exact.proofs.Scratch.{row-cleared}
 use Rattle.exact.proofs.Solved.{solved-exact}
 use Rattle.exact.proofs.exact.Statement.{statement}
 use Rattle.exact.proofs.exact.Tie as tie
-
--- what is left in scratch does not depend on what its first w numbers became
-row-cleared : (w : ℕ) (row scratch : List ℤ) → length row ≡ w → scratchLeft w (row ++ drop w scratch) ≡ scratchLeft w scratch
-row-cleared w row scratch e =
-    let n : 4 * w ≡ length row + 3 * w = omega arith in
-    let m : w + 3 * w ≡ 4 * w = omega arith in
-    rw (ap (λ (k : ℕ). drop k (row ++ drop w scratch)) n ∙ drop-append-add row (drop w scratch) (3 * w) ∙ drop-drop (3 * w) w scratch, m)
 
 solve-requires : tie.Need-solve-requires
 solve-requires c κs =
