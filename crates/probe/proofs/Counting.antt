@@ -15,9 +15,9 @@ use Rattle.probe.specs.Points.{pointColumn, pointRow, pointOff, rowsFall
 
 module _ (points : List ℕ) where
   -- a point of a list that is not refused
-  pub on-sheet : (w h n k : ℕ) → pointOff w h n points ≡ false → k < n → (pointColumn points k < w) × (pointRow points k < h)
+  pub point-on-sheet : (w h n k : ℕ) → pointOff w h n points ≡ false → k < n → (pointColumn points k < w) × (pointRow points k < h)
   unfolding pointOff
-  on-sheet w h n k e l =
+  point-on-sheet w h n k e l =
       let o = any-false n _ k e l in
       (leb-false w _ (or-left (leb w (pointColumn points k)) _ o), leb-false h _ (or-right (leb w (pointColumn points k)) _ o))
 
@@ -61,16 +61,16 @@ module _ (points : List ℕ) where
   -- ---- after the first k points
 
   -- the first `read` rows are passed, and of the rows so many are different
-  pub record Counted (h k read rows : ℕ) : Type 0 where
+  pub record RowsCounted (h k read rows : ℕ) : Type 0 where
     pub past : (i : ℕ) → i < k → pointRow points i < read
     pub none-read : k ≡ 0 → read ≡ 0
     pub last-read : 0 < k → read ≡ pointRow points (k - 1) + 1
     pub count : rows ≡ rowsAmong h k points
 
-  pub counted-none : (h : ℕ) → Counted h 0 0 0
+  pub counted-none : (h : ℕ) → RowsCounted h 0 0 0
   counted-none h = record { past = λ i l. absurd (omega arith); none-read = λ e. refl; last-read = λ l. absurd (omega arith); count = rows-none h }
 
-  module _ {h k read rows : ℕ} (s : Counted h k read rows) (n : ℕ) (level : rowsFall n points ≡ false) (more : k < n) where
+  module _ {h k read rows : ℕ} (s : RowsCounted h k read rows) (n : ℕ) (level : rowsFall n points ≡ false) (more : k < n) where
     -- the next point lies in the last row that is passed, or below it
     pub counted-reach : read ≤ pointRow points k + 1
     counted-reach = go k refl
@@ -82,7 +82,7 @@ module _ (points : List ℕ) where
             let f : k - 1 + 1 ≡ k = omega arith in
             omega (arith, rw f at (no-fall n (k - 1) level (omega arith)))
 
-    pub counted-more : {y rows′ : ℕ} → y ≡ pointRow points k → y < h → rows′ ≡ cond (leb read y) (rows + 1) rows → Counted h (k + 1) (y + 1) rows′
+    pub counted-more : {y rows′ : ℕ} → y ≡ pointRow points k → y < h → rows′ ≡ cond (leb read y) (rows + 1) rows → RowsCounted h (k + 1) (y + 1) rows′
     counted-more {y} {rows′} e on r = record {
       past = λ i l. elim (ℕ-discrete i k) [ yes q ↦ rw q (omega arith) | no q ↦ omega (arith, s .past i (omega arith), counted-reach) ];
       none-read = λ z. absurd (omega arith);

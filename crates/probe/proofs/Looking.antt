@@ -14,7 +14,7 @@ use Rattle.raster.specs.LoopLaws.{count-none}
 use Rattle.raster.specs.Pixels.{Mask, index}
 use Rattle.raster.specs.Rows.{RowWritten}
 use Rattle.raster.specs.Sheet.{copperOf}
-use Rattle.probe.specs.Rows.{LastAbove, LastAboves, passed, Upcoming, Upcomings, outdated, looked, LookedTo, LookedTos, FirstBelow, FirstBelows}
+use Rattle.probe.specs.Rows.{LastAbove, LastAboves, lastWith, Upcoming, Upcomings, outdated, nextWith, LookedTo, LookedTos, FirstBelow, FirstBelows}
 
 -- a pixel is copper if its byte is not 0
 pub byte-copper : (sheet : List ℕ) (w x y : ℕ) {byte : ℕ} → byte ≡ getD sheet (index w x y) 0 → copperOf sheet w x y ≡ not (eqb byte 0)
@@ -27,7 +27,7 @@ module _ {copper : Mask} {x : ℕ} where
   pub above-none : LastAbove copper x 0 0
   above-none = record { on = omega arith; is-copper = λ l. absurd (omega arith); bare = λ j l m. absurd (omega arith) }
 
-  above-more : {n a : ℕ} (byte : ℕ) → copper x n ≡ not (eqb byte 0) → LastAbove copper x n a → LastAbove copper x (n + 1) (passed byte (n + 1) a)
+  above-more : {n a : ℕ} (byte : ℕ) → copper x n ≡ not (eqb byte 0) → LastAbove copper x n a → LastAbove copper x (n + 1) (lastWith byte (n + 1) a)
   above-more {n} {a} byte here s = go (eqb byte 0) here
     where
       go : (t : Bool) → copper x n ≡ not t → LastAbove copper x (n + 1) (cond t a (n + 1))
@@ -47,7 +47,7 @@ module _ {copper : Mask} {x : ℕ} where
     upcoming-later l u = record { on = u .on; is-copper = u .is-copper; bare = λ j m k. u .bare j (omega arith) k }
 
     looked-more : {r b : ℕ} (byte : ℕ) → y ≤ r → r < h → copper x r ≡ not (eqb byte 0) → LookedTo copper h x y r b
-        → LookedTo copper h x y (r + 1) (looked y byte (r + 1) b)
+        → LookedTo copper h x y (r + 1) (nextWith y byte (r + 1) b)
     looked-more {r} {b} byte l m here s = go (leb b y) refl (eqb byte 0) here
       where
         go : (t : Bool) → leb b y ≡ t → (u : Bool) → copper x r ≡ not u → LookedTo copper h x y (r + 1) (cond (t && not u) (r + 1) b)
@@ -89,14 +89,14 @@ module _ {copper : Mask} {h x r : ℕ} where
 
 module _ (sheet : List ℕ) (w : ℕ) where
   pub row-passed : {y : ℕ} {above above′ : List ℕ} → LastAboves (copperOf sheet w) w y above
-      → RowWritten 0 w (λ x. passed (getD sheet (y * w + x) 0) (y + 1) (getD above x 0)) above above′ → LastAboves (copperOf sheet w) w (y + 1) above′
+      → RowWritten 0 w (λ x. lastWith (getD sheet (y * w + x) 0) (y + 1) (getD above x 0)) above above′ → LastAboves (copperOf sheet w) w (y + 1) above′
   row-passed {y} s r = record {
     at = λ x l. let e : 0 + x ≡ x = omega arith in
         rw (rw e at (r .here x l)) (above-more (getD sheet (y * w + x) 0) (byte-copper sheet w x y refl) (s .at x l));
   }
 
   pub row-looked : {h y r : ℕ} {below below′ : List ℕ} → y ≤ r → r < h → LookedTos (copperOf sheet w) w h y r below
-      → RowWritten 0 w (λ x. looked y (getD sheet (r * w + x) 0) (r + 1) (getD below x 0)) below below′
+      → RowWritten 0 w (λ x. nextWith y (getD sheet (r * w + x) 0) (r + 1) (getD below x 0)) below below′
       → LookedTos (copperOf sheet w) w h y (r + 1) below′
   row-looked {r = r} a b s k = record {
     at = λ x l. let e : 0 + x ≡ x = omega arith in

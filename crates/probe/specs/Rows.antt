@@ -23,9 +23,9 @@ pub record LastAbove (copper : Mask) (x n a : ℕ) : Type 0 where
 pub record LastAboves (copper : Mask) (w n : ℕ) (above : List ℕ) : Type 0 where
   pub at : (x : ℕ) → x < w → LastAbove copper x n (getD above x 0)
 
--- the row numbered n is passed: on copper, that is the last
-abbrev pub passed : (byte n a : ℕ) → ℕ
-passed byte n a = cond (eqb byte 0) a n
+-- with the row numbered n, that is the last if it is copper
+abbrev pub lastWith : (byte n a : ℕ) → ℕ
+lastWith byte n a = cond (eqb byte 0) a n
 
 -- ---- copper below: b is the number of a copper row of column x, or 0, or h + 1, and from row y to that one there is no other
 pub record Upcoming (copper : Mask) (h x y b : ℕ) : Type 0 where
@@ -40,9 +40,9 @@ pub record Upcomings (copper : Mask) (w h y : ℕ) (below : List ℕ) : Type 0 w
 abbrev pub outdated : (y b : ℕ) → Bool
 outdated y b = leb b y
 
--- the row numbered n is looked at: on copper, that is the one if another is looked for
-abbrev pub looked : (y byte n b : ℕ) → ℕ
-looked y byte n b = cond (outdated y b && not (eqb byte 0)) n b
+-- with the row numbered n, that is the one if it is copper and another is looked for
+abbrev pub nextWith : (y byte n b : ℕ) → ℕ
+nextWith y byte n b = cond (outdated y b && not (eqb byte 0)) n b
 
 -- of a column that looks for another there is none from row y to row r − 1
 pub record LookedTo (copper : Mask) (h x y r b : ℕ) : Type 0 where

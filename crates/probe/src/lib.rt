@@ -21,11 +21,11 @@ ghost use Rattle.exact.specs.Nearest.{distanceBy, scratchNeed, scratchLeft};
 ghost use Rattle.probe.specs.Points.{pointColumn, pointRow, pointOff, rowsFall, distancesAt, rowsAmong};
 ghost use Rattle.probe.specs.Rows.{
   LastAboves,
-  passed,
+  lastWith,
   Upcomings,
   Upcoming,
   outdated,
-  looked,
+  nextWith,
   LookedTo,
   LookedTos,
   FirstBelow,
@@ -41,7 +41,7 @@ ghost use Rattle.probe.specs.Rows.{
 
 // The number of the last copper, once the row numbered n is passed.
 fn last_row(byte: u8, n: u16, a: u16) -> u16
-    ensures { λ r. ⌜ r ≡ passed byte n a ⌝ }
+    ensures { λ r. ⌜ r ≡ lastWith byte n a ⌝ }
 {
     if byte == 0 {
         return a;
@@ -52,7 +52,7 @@ fn last_row(byte: u8, n: u16, a: u16) -> u16
 // The row numbered n, which starts at `base`, is passed.
 fn pass_row(sheet: &[u8], base: usize, w: usize, n: u16, above: &mut [u16])
     requires { ⌜ (base + w ≤ length (now sheet)) × (w ≤ length (now above)) ⌝ }
-    ensures { λ _. ⌜ RowWritten 0 w (λ x. passed (getD (now (sheet .entry)) (base + x) 0) n (getD (now (above .entry)) x 0))
+    ensures { λ _. ⌜ RowWritten 0 w (λ x. lastWith (getD (now (sheet .entry)) (base + x) 0) n (getD (now (above .entry)) x 0))
         (now (above .entry)) (now (above .exit)) ⌝ }
 {
     for x in 0..w {
@@ -77,7 +77,7 @@ fn pass_rows(sheet: &[u8], w: usize, h: usize, from: usize, to: usize, above: &m
 
 // The number of the upcoming copper, once the row numbered n is looked at.
 fn next_row(y: u16, byte: u8, n: u16, b: u16) -> u16
-    ensures { λ r. ⌜ r ≡ looked y byte n b ⌝ }
+    ensures { λ r. ⌜ r ≡ nextWith y byte n b ⌝ }
 {
     if y < b {
         return b;
@@ -91,7 +91,7 @@ fn next_row(y: u16, byte: u8, n: u16, b: u16) -> u16
 // The row numbered n, which starts at `base`, is looked at for all columns that look for another copper. No jumps, so that many are done at once.
 fn look_row(sheet: &[u8], base: usize, w: usize, y: u16, n: u16, below: &mut [u16])
     requires { ⌜ (base + w ≤ length (now sheet)) × (w ≤ length (now below)) ⌝ }
-    ensures { λ _. ⌜ RowWritten 0 w (λ x. looked y (getD (now (sheet .entry)) (base + x) 0) n (getD (now (below .entry)) x 0))
+    ensures { λ _. ⌜ RowWritten 0 w (λ x. nextWith y (getD (now (sheet .entry)) (base + x) 0) n (getD (now (below .entry)) x 0))
         (now (below .entry)) (now (below .exit)) ⌝ }
 {
     for x in 0..w {
@@ -123,13 +123,13 @@ fn outdated_columns(below: &[u16], w: usize, y: u16) -> u16
 }
 
 // How far down the rows were looked at, and how many columns still look for another copper.
-struct Reached {
+struct LookedRows {
     row: usize,
     left: u16,
 }
 
 // Row by row from row y on, while more than one column in sixteen looks for another copper.
-fn look_rows(sheet: &[u8], w: usize, h: usize, y: usize, below: &mut [u16]) -> Reached
+fn look_rows(sheet: &[u8], w: usize, h: usize, y: usize, below: &mut [u16]) -> LookedRows
     requires { ⌜ (w ≤ 2048) × ((h ≤ 2048) × (y < h)) ⌝ }
     requires { ⌜ (length (now sheet) ≡ h * w) × (w ≤ length (now below)) ⌝ }
     requires { ⌜ Upcomings (copperOf (now sheet) w) w h y (now below) ⌝ }
@@ -143,7 +143,7 @@ fn look_rows(sheet: &[u8], w: usize, h: usize, y: usize, below: &mut [u16]) -> R
         left = outdated_columns(below, w, y as u16);
         r += 1;
     }
-    Reached { row: r, left }
+    LookedRows { row: r, left }
 }
 
 // The number of the first copper of column x in row r or below it; h + 1 if there is none.
@@ -191,9 +191,9 @@ fn look_down(sheet: &[u8], w: usize, h: usize, y: usize, below: &mut [u16])
     requires { ⌜ Upcomings (copperOf (now sheet) w) w h y (now below) ⌝ }
     ensures { λ _. ⌜ FirstBelows (copperOf (now (sheet .entry)) w) w h y (now (below .exit)) ⌝ }
 {
-    let reached = look_rows(sheet, w, h, y, below);
-    if reached.left != 0 {
-        look_columns(sheet, w, h, y, reached.row, below);
+    let looked = look_rows(sheet, w, h, y, below);
+    if looked.left != 0 {
+        look_columns(sheet, w, h, y, looked.row, below);
     }
 }
 

@@ -6,12 +6,12 @@ use native.Mathlib.Omega.{arith}
 use lib.ListN.{getD}
 use Rattle.raster.specs.Rows.{RowWritten}
 use Rattle.raster.proofs.Rows.{row-none, row-more}
-use Rattle.probe.specs.Rows.{looked}
+use Rattle.probe.specs.Rows.{nextWith}
 use Rattle.probe.proofs.look_row.Statement.{statement}
 use Rattle.probe.proofs.look_row.Tie as tie
 
 abbrev Inv-loop : tie.InvT-loop
-Inv-loop sheet base w y n below₀ x₀ below x = RowWritten 0 x (λ z. looked y (getD sheet (base + z) 0) n (getD below₀ z 0)) below₀ below × (x ≤ w)
+Inv-loop sheet base w y n below₀ x₀ below x = RowWritten 0 x (λ z. nextWith y (getD sheet (base + z) 0) n (getD below₀ z 0)) below₀ below × (x ≤ w)
 
 abbrev μ-loop : tie.MeasureT-loop
 μ-loop sheet base w y n below₀ x₀ below x = w - x

@@ -6,12 +6,12 @@ use native.Mathlib.Omega.{arith}
 use lib.ListN.{getD}
 use Rattle.raster.specs.Rows.{RowWritten}
 use Rattle.raster.proofs.Rows.{row-none, row-more}
-use Rattle.probe.specs.Rows.{passed}
+use Rattle.probe.specs.Rows.{lastWith}
 use Rattle.probe.proofs.pass_row.Statement.{statement}
 use Rattle.probe.proofs.pass_row.Tie as tie
 
 abbrev Inv-loop : tie.InvT-loop
-Inv-loop sheet base w n above₀ x₀ above x = RowWritten 0 x (λ z. passed (getD sheet (base + z) 0) n (getD above₀ z 0)) above₀ above × (x ≤ w)
+Inv-loop sheet base w n above₀ x₀ above x = RowWritten 0 x (λ z. lastWith (getD sheet (base + z) 0) n (getD above₀ z 0)) above₀ above × (x ≤ w)
 
 abbrev μ-loop : tie.MeasureT-loop
 μ-loop sheet base w n above₀ x₀ above x = w - x

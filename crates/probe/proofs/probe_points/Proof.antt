@@ -12,13 +12,13 @@ use Rattle.exact.proofs.Parts.{line-to}
 use Rattle.exact.proofs.Theorems.{exact-distance}
 use Rattle.probe.specs.Points.{pointColumn, pointRow, distancesAt}
 use Rattle.probe.specs.Rows.{Worked}
-use Rattle.probe.proofs.Counting.{on-sheet, rows-few, Counted, counted-none, counted-reach, counted-more}
+use Rattle.probe.proofs.Counting.{point-on-sheet, rows-few, RowsCounted, counted-none, counted-reach, counted-more}
 use Rattle.probe.proofs.probe_points.Statement.{statement}
 use Rattle.probe.proofs.probe_points.Tie as tie
 
 abbrev Inv-loop : tie.InvT-loop
 Inv-loop sheet w h points out₀ above₀ below₀ ways₀ row₀ cost₀ site₀ start₀ rows₀ read₀ k₀ k-end out above below ways row cost site start rows read k =
-    (Counted points h k read rows
+    (RowsCounted points h k read rows
     × (Worked (copperOf sheet w) w h read above below row
     × Writing (λ i. trueDistance (copperOf sheet w) w h (pointColumn points i) (pointRow points i)) out₀ k out))
     × ((length above ≡ length above₀)
@@ -51,7 +51,7 @@ on c =
     let l = c .before .before in
     let s = start l in
     let a = s .args in
-    let o = on-sheet (a .points .now) (a .w) (a .h) (length (a .out .now)) (l .loop .k) (s .pre .1 .0 .0) (omega arith) in
+    let o = point-on-sheet (a .points .now) (a .w) (a .h) (length (a .out .now)) (l .loop .k) (s .pre .1 .0 .0) (omega arith) in
     (o .0, omega (arith, o .1, c .point-row .ensures))
 
 loop-holds : tie.Need-loop-holds Inv-loop μ-loop
