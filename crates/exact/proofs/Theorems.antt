@@ -23,7 +23,7 @@ use Rattle.raster.specs.Pixels.{Mask, index}
 use Rattle.raster.specs.Vector.{size, mark, isMark, unlabelled, Ends, Target}
 use Rattle.raster.specs.VectorLaws.{near-labelled, way-ends, ends-size, target-near}
 use Rattle.raster.specs.Tests.{and-left, and-right}
-use Rattle.exact.specs.Nearest.{Nearest, Exact, to-nearest, bare-sheet, SearchState, nearest, toColumn, toRow, exactMap, distanceBy, gate}
+use Rattle.exact.specs.Nearest.{Nearest, Exact, to-nearest, bare-sheet, SearchState, nearest, toColumn, toRow, exactMap, distanceOf, gate}
 use Rattle.exact.proofs.Search.{Answer, no-copper, nearest-at, found}
 
 module _ (copper : Mask) (w h : ℕ) (wide : w ≤ maxSide) (tall : h ≤ maxSide) (x y : ℕ) (across : x < w) (down : y < h) where
@@ -32,7 +32,7 @@ module _ (copper : Mask) (w h : ℕ) (wide : w ≤ maxSide) (tall : h ≤ maxSid
   ends-labelled {u = u} {v = v} c e = near-labelled u v (omega (arith, target-near across down (record { column = _; row = _; on-copper = c; ends = e }) .0))
 
   -- what an exact vector says of the true squared distance is so
-  pub exact-distance : {u v : ℤ} → Exact copper w h x y u v → distanceBy u v ≡ trueDistance copper w h x y
+  pub exact-distance : {u v : ℤ} → Exact copper w h x y u v → distanceOf u v ≡ trueDistance copper w h x y
   exact-distance (to-nearest i j n e) =
       let c = n .on-copper in
       rw (ends-labelled c e)
@@ -96,7 +96,7 @@ module _ (copper : Mask) (w h : ℕ) (wide : w ≤ maxSide) (tall : h ≤ maxSid
       go (bare-sheet bare u) = absurd (bare a b c)
 
   -- the size is the true squared distance, and unlabelled says that there is no copper
-  pub true-distance : distanceBy dx dy ≡ trueDistance copper w h x y
+  pub true-distance : distanceOf dx dy ≡ trueDistance copper w h x y
   true-distance = exact-distance is-exact
 
   -- the gate passes only where all copper is above q, and fails only where some is not

@@ -63,8 +63,8 @@ unfoldable pub exactMap : (copper : Mask) (w h : ℕ) → List ℤ
 exactMap copper w h = vectors w h (λ x y. toColumn x (nearest copper x y w h)) (λ x y. toRow y (nearest copper x y w h))
 
 -- what a vector that goes there says of the pixel's true squared distance: it is its size; unlabelled, there is no copper
-abbrev pub distanceBy : (dx dy : ℤ) → ℕ
-distanceBy dx dy = cond (unlabelled dx dy) noDistance (size dx dy)
+abbrev pub distanceOf : (dx dy : ℤ) → ℕ
+distanceOf dx dy = cond (unlabelled dx dy) noDistance (size dx dy)
 
 -- ---- scratch: Calls, build; document 02, C-22
 

@@ -17,9 +17,9 @@ use Rattle.raster.specs.Sheet.{copperOf}
 use Rattle.probe.specs.Rows.{LastAbove, LastAboves, lastWith, Upcoming, Upcomings, outdated, nextWith, LookedTo, LookedTos, FirstBelow, FirstBelows}
 
 -- a pixel is copper if its byte is not 0
-pub byte-copper : (sheet : List ℕ) (w x y : ℕ) {byte : ℕ} → byte ≡ getD sheet (index w x y) 0 → copperOf sheet w x y ≡ not (eqb byte 0)
+pub byte-copper : (sheet : List ℕ) (w x y : ℕ) → copperOf sheet w x y ≡ not (eqb (getD sheet (index w x y) 0) 0)
 unfolding copperOf
-byte-copper sheet w x y e = rw e
+byte-copper sheet w x y = refl
 
 -- ---- one column
 
@@ -92,7 +92,7 @@ module _ (sheet : List ℕ) (w : ℕ) where
       → RowWritten 0 w (λ x. lastWith (getD sheet (y * w + x) 0) (y + 1) (getD above x 0)) above above′ → LastAboves (copperOf sheet w) w (y + 1) above′
   row-passed {y} s r = record {
     at = λ x l. let e : 0 + x ≡ x = omega arith in
-        rw (rw e at (r .here x l)) (above-more (getD sheet (y * w + x) 0) (byte-copper sheet w x y refl) (s .at x l));
+        rw (rw e at (r .here x l)) (above-more (getD sheet (y * w + x) 0) (byte-copper sheet w x y) (s .at x l));
   }
 
   pub row-looked : {h y r : ℕ} {below below′ : List ℕ} → y ≤ r → r < h → LookedTos (copperOf sheet w) w h y r below
@@ -100,7 +100,7 @@ module _ (sheet : List ℕ) (w : ℕ) where
       → LookedTos (copperOf sheet w) w h y (r + 1) below′
   row-looked {r = r} a b s k = record {
     at = λ x l. let e : 0 + x ≡ x = omega arith in
-        rw (rw e at (k .here x l)) (looked-more (getD sheet (r * w + x) 0) a b (byte-copper sheet w x r refl) (s .at x l));
+        rw (rw e at (k .here x l)) (looked-more (getD sheet (r * w + x) 0) a b (byte-copper sheet w x r) (s .at x l));
   }
 
 module _ {copper : Mask} {w h y : ℕ} {below : List ℕ} where

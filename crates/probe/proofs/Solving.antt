@@ -73,14 +73,13 @@ worked-none a b = record {
   last-row = λ y e. absurd (omega arith);
 }
 
-module _ {copper : Mask} {w h n y : ℕ} {above below : List ℕ} {row : List ℤ} (s : Worked copper w h n above below row) where
-  -- the same copper comes farther down
-  pub worked-below : n ≤ y → Upcomings copper w h y below
-  worked-below l = record { at = λ x m. upcoming-later (omega arith) (s .below-row .at x m) }
+-- the same copper comes farther down
+pub worked-below : {copper : Mask} {w h n y : ℕ} {above below : List ℕ} {row : List ℤ} → Worked copper w h n above below row → n ≤ y → Upcomings copper w h y below
+worked-below s l = record { at = λ x m. upcoming-later (omega arith) (s .below-row .at x m) }
 
-  -- row y is worked out
-  pub worked-row : {above′ below′ : List ℕ} {row′ : List ℤ} → LastAboves copper w (y + 1) above′ → Upcomings copper w h y below′
-      → RowExact copper w h y row′ → Worked copper w h (y + 1) above′ below′ row′
-  worked-row a b r =
-      let e : y + 1 - 1 ≡ y = omega arith in
-      record { above-row = a; below-row = rw e b; last-row = λ z q. let f : y ≡ z = omega arith in rw (← f) r }
+-- row y is worked out
+pub worked-row : {copper : Mask} {w h y : ℕ} {above below : List ℕ} {row : List ℤ} → LastAboves copper w (y + 1) above → Upcomings copper w h y below
+    → RowExact copper w h y row → Worked copper w h (y + 1) above below row
+worked-row {y = y} a b r =
+    let e : y + 1 - 1 ≡ y = omega arith in
+    record { above-row = a; below-row = rw e b; last-row = λ z q. let f : y ≡ z = omega arith in rw (← f) r }

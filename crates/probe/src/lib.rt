@@ -17,7 +17,7 @@ ghost use Rattle.raster.specs.Pixels.{tabulate};
 ghost use Rattle.raster.specs.Rows.{RowWritten};
 ghost use Rattle.raster.specs.Sheet.{copperOf};
 ghost use Rattle.envelope.specs.Best.{Line};
-ghost use Rattle.exact.specs.Nearest.{distanceBy, scratchNeed, scratchLeft};
+ghost use Rattle.exact.specs.Nearest.{distanceOf, scratchNeed, scratchLeft};
 ghost use Rattle.probe.specs.Points.{pointColumn, pointRow, pointOff, rowsFall, distancesAt, rowsAmong};
 ghost use Rattle.probe.specs.Rows.{
   LastAboves,
@@ -99,7 +99,7 @@ fn look_row(sheet: &[u8], base: usize, w: usize, y: u16, n: u16, below: &mut [u1
     }
 }
 
-// One more if the column looks for another copper.
+// The count of columns that look for another copper in row y, one more if a column with b does.
 fn tally(count: u16, y: u16, b: u16) -> u16
     requires { ⌜ count < 2048 ⌝ }
     ensures { λ r. ⌜ r ≡ cond (outdated y b) (count + 1) count ⌝ }
@@ -110,7 +110,7 @@ fn tally(count: u16, y: u16, b: u16) -> u16
     count + 1
 }
 
-// How many columns do.
+// How many columns look for another copper in row y.
 fn outdated_columns(below: &[u16], w: usize, y: u16) -> u16
     requires { ⌜ (w ≤ 2048) × (w ≤ length (now below)) ⌝ }
     ensures { λ r. ⌜ r ≡ countBelow w (λ x. outdated y (getD (now (below .entry)) x 0)) ⌝ }
@@ -161,7 +161,8 @@ fn look_column(sheet: &[u8], w: usize, h: usize, x: usize, r: usize) -> u16
     (h + 1) as u16
 }
 
-// The number of the first copper at or below row y of column x, which has b if it looks for no other; down to row r − 1 it has none else.
+// The number of the first copper of column x at or below row y: b, unless row y is past it. Then it lies at or below row r, since there is none from row y to
+// row r − 1.
 fn settled(sheet: &[u8], w: usize, h: usize, x: usize, y: usize, r: usize, b: u16) -> u16
     requires { ⌜ (h ≤ 2048) × ((y ≤ r) × ((r ≤ h) × ((x < w) × (length (now sheet) ≡ h * w)))) ⌝ }
     requires { ⌜ LookedTo (copperOf (now sheet) w) h x y r b ⌝ }
@@ -173,7 +174,7 @@ fn settled(sheet: &[u8], w: usize, h: usize, x: usize, y: usize, r: usize, b: u1
     look_column(sheet, w, h, x, r)
 }
 
-// The columns that still look for another copper, one by one; down to row r − 1 they have none.
+// The columns that still look for another copper, one by one; from row y to row r − 1 they have none.
 fn look_columns(sheet: &[u8], w: usize, h: usize, y: usize, r: usize, below: &mut [u16])
     requires { ⌜ (h ≤ 2048) × ((y ≤ r) × ((r ≤ h) × ((length (now sheet) ≡ h * w) × (w ≤ length (now below))))) ⌝ }
     requires { ⌜ LookedTos (copperOf (now sheet) w) w h y r (now below) ⌝ }
@@ -362,7 +363,7 @@ fn rows_with(rows: u32, seen: usize, y: usize) -> u32
 // The true squared distance that the vector of pixel x says.
 fn distance_at(row: &[i16], x: usize) -> u32
     requires { ⌜ Inside x (now row) ⌝ }
-    ensures { λ r. ⌜ r ≡ distanceBy (dxAt (now (row .entry)) x) (dyAt (now (row .entry)) x) ⌝ }
+    ensures { λ r. ⌜ r ≡ distanceOf (dxAt (now (row .entry)) x) (dyAt (now (row .entry)) x) ⌝ }
 {
     if raster::unlabelled_at(row, x) {
         return 4294967295;

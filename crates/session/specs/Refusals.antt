@@ -73,7 +73,7 @@ skeletonTable s map out = readTable s map (notSheet s out)
 abbrev pub rebuildTable : Session → List ℤ → (marks out : List ℕ) → Table
 rebuildTable s map marks out = readTable s map (notSheet s marks || notSheet s out)
 
--- probe; a list of odd length is twice as long as no slice of answers
+-- probe; the list must be twice as long as the slice for the answers, so it is not of odd length
 unfoldable pub probeTable : Session → (sheet points : List ℕ) (scratch : List ℤ) (out : List ℕ) → Table
 probeTable s sheet points scratch out =
     (not (active s), 30)

@@ -1,5 +1,5 @@
-// The session (document 01, and document 02, C-11, C-12 and C-19): every call takes it by value and hands it back with an answer number, 0 if it was done. No call
-// asks anything of its caller: bad input gets its number, and a refusal changes nothing.
+// The session (document 01, and document 02, C-11, C-12 and C-19): every call takes it by value and hands it back with an answer number, 0 if it was done. No
+// call asks anything of its caller: bad input gets its number, and a refusal changes nothing.
 ghost use mathlib.Core.Path.{_≡_};
 ghost use mathlib.Core.Bool.{cond, _&&_};
 ghost use Prim.Native.Nat.{_<_, _≤_};
@@ -391,7 +391,7 @@ impl Session {
         }
     }
 
-    // Writes the true squared distance of each point in `out`, with no map; 4,294,967,295 without copper. Points are x and y in turn, their rows do not fall.
+    // Writes the true squared distance of each point in `out`, 4,294,967,295 without copper. Points are pairs, x then y, sorted by row. No map is needed.
     pub fn probe(
         mut self,
         sheet: &[u8],

@@ -1,6 +1,6 @@
 -- `probe::look_column` meets its contract. The invariant: from row r to row j − 1 the column has no copper.
 -- Assumes nothing.
-use mathlib.Core.Path.{_≡_, refl, ap, _∙_}
+use mathlib.Core.Path.{_≡_, ap, _∙_}
 use mathlib.Core.Bool.{false, not}
 use Prim.Native.Nat.{ℕ, _+_, _*_, _-_, _<_, _≤_}
 use native.Mathlib.Decide.{ℕ-discrete}
@@ -29,14 +29,14 @@ returns : tie.Need-returns Inv-loop μ-loop
 returns c =
     let l = c .before .before .before in
     let a = l .before .args in
-    column-found (l .loop .inv .0) (omega arith) (byte-copper (a .sheet .now) (a .w) (a .x) (l .loop .j) refl ∙ ap not (ne-eqb _ _ (c .if1 .taken)))
+    column-found (l .loop .inv .0) (omega arith) (byte-copper (a .sheet .now) (a .w) (a .x) (l .loop .j) ∙ ap not (ne-eqb _ _ (c .if1 .taken)))
     (l .loop .inv .1 .1)
 
 loop-again : tie.Need-loop-again Inv-loop μ-loop
 loop-again c =
     let l = c .before .before .before in
     let a = l .before .args in
-    let e = byte-copper (a .sheet .now) (a .w) (a .x) (l .loop .j) refl ∙ ap not (eq-eqb _ _ (c .if1 .left)) in
+    let e = byte-copper (a .sheet .now) (a .w) (a .x) (l .loop .j) ∙ ap not (eq-eqb _ _ (c .if1 .left)) in
     (omega arith, (omega arith, λ i k m. elim (ℕ-discrete i (l .loop .j)) [ yes q ↦ rw q e | no q ↦ l .loop .inv .1 .1 i k (omega arith) ]))
 
 returns-2 : tie.Need-returns-2 Inv-loop μ-loop

@@ -20,10 +20,7 @@ solve-row-requires c κs =
     ((s .0 .0, (s .0 .1 .0, (omega arith, s .0 .1 .1 .1))), (s .1 .0, (s .1 .1 .0, (s .1 .1 .1 .above-row, worked-below (s .1 .1 .1) (omega arith)))))
 
 returns-2 : tie.Need-returns-2
-returns-2 c =
-    let r = c .before .before .before .before .before .before .before .before .before .before .before .before in
-    let e = r .solve-row .ensures in
-    worked-row (r .before .before .before .before .before .before .before .before .before .before .before .before .before .before .before .pre .1 .1 .1) (e .0) (e .1 .0) (e .1 .1)
+returns-2 c = let e = c .before .before .before .before .before .before .before .before .before .before .before .before .solve-row .ensures in worked-row (e .0) (e .1 .0) (e .1 .1)
 
 pub turn-to-spec : {M : Type 1} → statement M
 turn-to-spec =
