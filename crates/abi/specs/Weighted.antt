@@ -5,7 +5,7 @@ use mathlib.Core.List.{List}
 use Prim.Native.Nat.{ℕ, _*_}
 use lib.Dec.{eqb, leb}
 use lib.ListN.{length}
-use Rattle.session.specs.State.{side}
+use Rattle.raster.specs.Limits.{side}
 
 -- the weights are allowed, the sides within their limits, and both slices have one entry a pixel
 abbrev pub canMap : (sheet values : List ℕ) (w h a b : ℕ) → Bool

@@ -1,15 +1,16 @@
-// The calls of the session, exported for Rust: the comparison, the benchmark and the pictures of jobs. They ask nothing of their caller.
+// The calls of the session and of `storage`, exported for Rust: the comparison, the benchmark and the pictures of jobs. They ask nothing of their caller.
 ghost use mathlib.Core.Path.{_≡_};
 ghost use mathlib.Core.Bool.{cond, _&&_};
 ghost use lib.Dec.{eqb};
 ghost use lib.ListN.{take, drop};
 ghost use Rattle.raster.specs.Map.{unmapped};
-ghost use Rattle.raster.specs.Refusal.{firstOf};
+ghost use Rattle.raster.specs.Refusal.{firstOf, onDone};
 ghost use Rattle.raster.specs.Sheet.{bare, copperOf};
 ghost use Rattle.morphology.specs.Resize.{expanded, shrunk};
 ghost use Rattle.rebuild.specs.Rebuild.{rebuilt};
 ghost use Rattle.skeleton.specs.Skeleton.{skeletonOf};
 ghost use Rattle.chamfer.specs.Chamfer.{chamferMap};
+ghost use Rattle.storage.specs.Stored.{stored, readBack, storeTable, readBackTable};
 ghost use Rattle.cutter.specs.Kinds.{maps};
 ghost use Rattle.session.specs.State.{fresh, openedAs, stale, builtBy};
 ghost use Rattle.session.specs.Maps.{pairsBuilt, valuesBuilt};
@@ -25,7 +26,6 @@ ghost use Rattle.session.specs.Refusals.{
   probeTable,
 };
 ghost use Rattle.session.specs.Calls.{
-  onDone,
   filledBy,
   scratchBy,
   placeSession,
@@ -246,6 +246,23 @@ pub extern "C" fn abi_session_row(s: Session, map: &[i16], y: u16) -> Span
     }
 }
 
+// A map of 16-bit pairs into signed bytes, and back.
+#[no_mangle]
+pub extern "C" fn abi_store(w: u16, h: u16, map: &[i16], bytes: &mut [i8]) -> u32
+    ensures answered { λ r. ⌜ r ≡ firstOf (storeTable w h (now (map .entry)) (now (bytes .entry))) ⌝ }
+    ensures bytes_left { λ r. ⌜ now (bytes .exit) ≡ onDone r (stored (now (map .entry))) (now (bytes .entry)) ⌝ }
+{
+    storage::store(w, h, map, bytes)
+}
+
+#[no_mangle]
+pub extern "C" fn abi_read_back(w: u16, h: u16, bytes: &[i8], map: &mut [i16]) -> u32
+    ensures answered { λ r. ⌜ r ≡ firstOf (readBackTable w h (now (bytes .entry)) (now (map .entry))) ⌝ }
+    ensures map_left { λ r. ⌜ now (map .exit) ≡ onDone r (readBack (now (bytes .entry))) (now (map .entry)) ⌝ }
+{
+    storage::read_back(w, h, bytes, map)
+}
+
 // The map of chamfer distances for any two weights, for the comparison: written, and true, if the weights are allowed, the sides within their limits and both
 // slices of one entry a pixel. Otherwise nothing is written.
 #[no_mangle]
@@ -273,7 +290,6 @@ fn can_map(sheet: &[u8], values: &[u16], w: u16, h: u16, a: u16, b: u16) -> bool
 {
     let n = raster::area(w, h);
     let weights = (a <= b) & (((b as usize) <= 2 * (a as usize)) & (b <= 32));
-    let across = (1 <= w) & (w <= Session::MAX_SIDE);
-    let down = (1 <= h) & (h <= Session::MAX_SIDE);
-    weights & ((across & down) & ((sheet.len() == n) & (values.len() == n)))
+    let sides = raster::is_side(w) & raster::is_side(h);
+    weights & (sides & ((sheet.len() == n) & (values.len() == n)))
 }

@@ -6,7 +6,7 @@ use mathlib.Core.Bool.{Bool, true, false, cond, true≢false}
 use mathlib.Core.List.{List, [], _∷_}
 use Prim.Native.Nat.{ℕ, _<_, _≤_}
 use native.Mathlib.Omega.{arith}
-use lib.Dec.{eqb, leb, ltb}
+use lib.Dec.{leb, ltb}
 use lib.IntN.{ℤ, pos, natAbs}
 use borrow.Author.Tests.{leb-true, leb-false, lt-ltb, ltb-true}
 use Rattle.raster.specs.Distance.{Copper}
@@ -31,11 +31,6 @@ same-pixel P e p = rw (← ap (λ (t : ℤ × ℤ). natAbs (t .0)) e, ← ap (λ
 -- nothing is visited yet
 pub no-approach : {e : ℕ} {m : Maps} {w h : ℕ} → Approach e m w h [] unmet
 no-approach = record { pixels = λ p. elim [ ]; least = none-met (λ x y. elim [ ]) }
-
--- where nothing was met the size is 0
-pub one-none : {Has : (x y n : ℕ) → Type 0} {ps : List (ℤ × ℤ)} {k : Closest} → Least Has ps k → cond (k .met) true (eqb (k .size) 0) ≡ true
-one-none (none-met none) = refl
-one-none (least-met x y n v s least) = refl
 
 -- what holds of one more pixel and of those before it holds of all
 all-pixels : (P : (i j : ℕ) → Type 0) {x y : ℕ} (ps : List (ℤ × ℤ)) → P x y → ((i j : ℕ) → Among (pos i, pos j) ps → P i j)

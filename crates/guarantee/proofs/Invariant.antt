@@ -1,8 +1,9 @@
--- What holds between two calls of a list: session and sheet agree with the board, the session is sound, a current map is its engine's map of the sheet, a
--- lowered cutter stands free of copper, and the closest approach is recorded. And what a gate says then, and an exact map.
+-- What holds between two entries of a list: session and sheet agree with the board, and the session is sound; and while the maps are the session's own, a
+-- current map is its engine's map of the sheet, a lowered cutter stands free of copper, and the closest approach is recorded. And what a gate says then, and an
+-- exact map.
 -- Assumes nothing.
 use mathlib.Core.Path.{_≡_, refl, sym, subst, _∙_}
-use mathlib.Core.Bool.{true, false, not}
+use mathlib.Core.Bool.{Bool, true, false, not}
 use Prim.Native.Nat.{ℕ, _*_, _<_, _≤_}
 use native.Mathlib.Omega.{arith}
 use lib.Dec.{eqb}
@@ -17,7 +18,7 @@ use Rattle.session.specs.State.{sound, active}
 use Rattle.session.specs.Lists.{World}
 use Rattle.session.proofs.Granted.{Limited, active-limits}
 use Rattle.guarantee.specs.Board.{Board}
-use Rattle.guarantee.specs.Claims.{withinFraction, Close, Agree, Free, Least, HasDistance, Approach}
+use Rattle.guarantee.specs.Claims.{withinFraction, Close, Agree, Free, ApproachRecorded, TrueApproachRecorded}
 use Rattle.guarantee.proofs.Gates.{EngineMap, gate-clear, gate-close, in-fraction}
 use Rattle.guarantee.proofs.Approach.{least-distance, same-least}
 use Rattle.guarantee.proofs.Sound.{current-active, known-engine}
@@ -26,18 +27,21 @@ pub record CurrentMap (w : World) : Type 0 where
   pub whole : length (w .sheet) ≡ w .session .height * w .session .width
   pub map-is : EngineMap (w .session) (w .sheet) (w .session .engine) (w .maps)
 
-pub record Inv (b : Board) (w : World) : Type 0 where
-  pub agree : Agree b w
-  pub fine : sound (w .session) ≡ true
+pub record Owned (b : Board) (w : World) : Type 0 where
   pub built : w .session .current ≡ true → CurrentMap w
   pub stands : w .session .lowered ≡ true → Free w (w .session .x) (w .session .y)
-  pub approach : Approach (w .session .engine) (w .maps) (w .session .width) (w .session .height) (b .visited) (w .session .closest)
+  pub approach : ApproachRecorded b w
+
+pub record Inv (b : Board) (w : World) (own : Bool) : Type 0 where
+  pub agree : Agree b w
+  pub fine : sound (w .session) ≡ true
+  pub owned : own ≡ true → Owned b w
 
 -- an open sheet has a side other than 0
 pub opens : (s : Session) → active s ≡ true → true ≡ not (eqb (s .width) 0)
 opens s e = let l = active-limits s e in rw (ne-eqb (s .width) 0 (omega (arith, l .some)))
 
-module _ {b : Board} {w : World} (inv : Inv b w) where
+module _ {b : Board} {w : World} {own : Bool} (inv : Inv b w own) where
   -- the board's copper is the sheet's
   on-sheet : {i j : ℕ} → Copper (b .copper) (b .width) (b .height) i j → Copper (copperOf (w .sheet) (w .session .width)) (w .session .width) (w .session .height) i j
   on-sheet {i} {j} c =
@@ -60,7 +64,7 @@ module _ {b : Board} {w : World} (inv : Inv b w) where
 
   -- ---- the gate at a pixel of a current map
 
-  module _ (open-sheet : active (w .session) ≡ true) (current : w .session .current ≡ true)
+  module _ (ours : own ≡ true) (open-sheet : active (w .session) ≡ true) (current : w .session .current ≡ true)
       (x y q : ℕ) (across : x < w .session .width) (down : y < w .session .height) where
     limits : Limited (w .session)
     limits = active-limits (w .session) open-sheet
@@ -72,13 +76,13 @@ module _ {b : Board} {w : World} (inv : Inv b w) where
     pub passed-clear : passesAt (w .session .engine) (w .maps) (index (w .session .width) x y) q ≡ true
         → Clear (copperOf (w .sheet) (w .session .width)) (w .session .width) (w .session .height) x y q
     passed-clear p =
-        let m = inv .built current in
+        let m = inv .owned ours .built current in
         gate-clear (w .session) (limits .wide) (limits .high) (w .sheet) (m .whole) x y across down (w .session .engine) (w .maps) (m .map-is) q p
 
     -- it fails: some copper of the board is within the engine's fraction of q
     pub failed-close : passesAt (w .session .engine) (w .maps) (index (w .session .width) x y) q ≡ false → Close b q x y
     failed-close p =
-        let m = inv .built current in
+        let m = inv .owned ours .built current in
         let n = gate-close (w .session) (limits .wide) (limits .high) (w .sheet) (m .whole) x y across down (w .session .engine) (w .maps) (m .map-is) q p in
         record {
           column = n .column;
@@ -91,12 +95,12 @@ module _ {b : Board} {w : World} (inv : Inv b w) where
 
   -- ---- the closest approach on an exact map
 
-  pub exact-approach : b .engine ≡ 1 → Least (HasDistance (b .copper) (b .width) (b .height)) (b .visited) (w .session .closest)
-  exact-approach exact =
+  pub exact-approach : own ≡ true → TrueApproachRecorded b w
+  exact-approach ours exact =
       let s = w .session in
       let current : s .current ≡ true = rw exact at (inv .agree .current) in
       let l = active-limits s (current-active s (inv .fine) current) in
       let e = inv .agree .engine ∙ exact in
-      let pairs = rw e at (inv .built current .map-is .pairs) in
+      let pairs = rw e at (inv .owned ours .built current .map-is .pairs) in
       same-least (λ i j. on-board) (λ i j. on-sheet)
-      (least-distance (copperOf (w .sheet) (s .width)) (s .width) (s .height) (l .wide) (l .high) (pairs refl) (rw e at (inv .approach)))
+      (least-distance (copperOf (w .sheet) (s .width)) (s .width) (s .height) (l .wide) (l .high) (pairs refl) (rw e at (inv .owned ours .approach)))

@@ -1,4 +1,5 @@
--- `Theorems` is the guarantee; what stands above it leads up to it. `Rebuilding` is what skeleton and rebuild guarantee on the exact map.
+-- `Theorems` is the guarantee; what stands above it leads up to it. `Rebuilding` is what skeleton and rebuild guarantee on the exact map, `Storing` that what build
+-- leaves can be stored.
 pub mod Gates
 pub mod Answers
 pub mod Sound
@@ -10,3 +11,4 @@ pub mod Theorems
 pub mod Jobs
 pub mod Table
 pub mod Rebuilding
+pub mod Storing

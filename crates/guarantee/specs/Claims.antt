@@ -130,10 +130,13 @@ pub record FreeRun (w : World) (d n : ℕ) : Type 0 where
   pub between : (i x y u v : ℕ) → i < n → walk d i (placeOf (w .session)) ≡ (pos x, pos y) → walk d (i + 1) (placeOf (w .session)) ≡ (pos u, pos v)
       → FreeBetween w x y u v
 
--- whatever calls were made: a lowered cutter stands free, and a run that is done is free
+-- a lowered cutter stands free, and a run of it that is done is free
+abbrev pub KeptFree : World → Type 0
+KeptFree w = w .session .lowered ≡ true → Free w (w .session .x) (w .session .y) × ((d n : ℕ) → answer (run d n) w ≡ 0 → FreeRun w d n)
+
+-- so it is whatever calls were made
 abbrev pub Workshop : Type 0
-Workshop = (cs : List Call) (sheet : List ℕ) (m : Maps) → let w = leftBy cs (world fresh sheet m) in
-    w .session .lowered ≡ true → Free w (w .session .x) (w .session .y) × ((d n : ℕ) → answer (run d n) w ≡ 0 → FreeRun w d n)
+Workshop = (cs : List Call) (sheet : List ℕ) (m : Maps) → KeptFree (leftBy cs (world fresh sheet m))
 
 -- ---- the closest approach: document 02, C-11
 
@@ -170,13 +173,17 @@ abbrev pub Along : (P : Board → World → Type 0) → List Call → Board → 
 Along P [] b w = Unit {0}
 Along P (c ∷ cs) b w = P (feed c (answer c w) b) (worldAfter c w) × Along P cs (feed c (answer c w) b) (worldAfter c w)
 
--- the theorem, over the same lists: the session has recorded the closest approach on the current map
-abbrev pub ClosestApproach : Type 0
-ClosestApproach = (cs : List Call) (sheet : List ℕ) (m : Maps)
-    → Along (λ b w. Approach (w .session .engine) (w .maps) (w .session .width) (w .session .height) (b .visited) (w .session .closest)) cs blank
-    (world fresh sheet m)
+-- the session has recorded the closest approach on the current map
+abbrev pub ApproachRecorded : Board → World → Type 0
+ApproachRecorded b w = Approach (w .session .engine) (w .maps) (w .session .width) (w .session .height) (b .visited) (w .session .closest)
 
 -- on an exact map that is the least true squared distance of the pixels visited; none without copper
+abbrev pub TrueApproachRecorded : Board → World → Type 0
+TrueApproachRecorded b w = b .engine ≡ 1 → Least (HasDistance (b .copper) (b .width) (b .height)) (b .visited) (w .session .closest)
+
+-- the two theorems, over the same lists
+abbrev pub ClosestApproach : Type 0
+ClosestApproach = (cs : List Call) (sheet : List ℕ) (m : Maps) → Along ApproachRecorded cs blank (world fresh sheet m)
+
 abbrev pub TrueApproach : Type 0
-TrueApproach = (cs : List Call) (sheet : List ℕ) (m : Maps)
-    → Along (λ b w. b .engine ≡ 1 → Least (HasDistance (b .copper) (b .width) (b .height)) (b .visited) (w .session .closest)) cs blank (world fresh sheet m)
+TrueApproach = (cs : List Call) (sheet : List ℕ) (m : Maps) → Along TrueApproachRecorded cs blank (world fresh sheet m)

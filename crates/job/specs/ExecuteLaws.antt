@@ -12,7 +12,7 @@ use lib.ListN.{length, take, drop, drop-of-length-le, take-append-drop}
 use lib.Seq.{take-all, take-at, drop-at, length-take-le, take-length, drop-length}
 use borrow.Author.Tests.{le-leb, lt-leb}
 use Rattle.raster.specs.Map.{unmapped}
-use Rattle.raster.specs.Refusal.{firstOf}
+use Rattle.raster.specs.Refusal.{firstOf, onDone}
 use Rattle.raster.specs.Sheet.{bare}
 use Rattle.morphology.specs.Resize.{expanded, shrunk}
 use Rattle.cutter.specs.Kinds.{Maps, maps}
@@ -21,7 +21,7 @@ use Rattle.session.specs.declared.Reply.{Reply}
 use Rattle.session.specs.State.{openedAs, stale, builtBy}
 use Rattle.session.specs.Maps.{pairsBuilt, valuesBuilt}
 use Rattle.session.specs.Refusals.{openTable, fillTable, buildTable, placeTable, runTable, resizeTable}
-use Rattle.session.specs.Calls.{onDone, filledBy, scratchBy, placeSession, runSession, liftSession}
+use Rattle.session.specs.Calls.{filledBy, scratchBy, placeSession, runSession, liftSession}
 use Rattle.session.specs.Lists.{World, world}
 use Rattle.records.specs.declared.Record.the-variants.{Open, Paint, Erase, Build, Place, Run, Lift, Expand, Shrink}
 use Rattle.job.specs.declared.Done.{Done}

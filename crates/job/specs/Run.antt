@@ -8,11 +8,10 @@ use Prim.Native.Nat.{ℕ, _+_, _*_}
 use lib.Dec.{eqb, ltb}
 use lib.IntN.{ℤ}
 use lib.ListN.{length, take, drop}
-use Rattle.raster.specs.Refusal.{firstOf}
+use Rattle.raster.specs.Refusal.{firstOf, onDone}
 use Rattle.cutter.specs.Kinds.{Maps, maps}
 use Rattle.session.specs.declared.Session.{Session}
 use Rattle.session.specs.State.{fresh}
-use Rattle.session.specs.Calls.{onDone}
 use Rattle.session.specs.Lists as calls
 use Rattle.session.specs.Lists.{World, world, answer, worldAfter, scratchAfter}
 use Rattle.records.specs.declared.Record.{Record}

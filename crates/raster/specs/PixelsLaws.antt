@@ -1,7 +1,7 @@
 -- The laws of pixels and lists: where a pixel stands, and what a list that is given pixel by pixel holds.
 -- Assumes nothing.
 use mathlib.Core.Path.{_≡_, refl, sym, ap, _∙_}
-use mathlib.Core.List.{List, [], _∷_}
+use mathlib.Core.List.{List, [], _∷_, map}
 use Prim.Native.Nat.{ℕ, zero, suc, _*_, _/_, _%_, _<_}
 use native.Mathlib.Nat.{le-of-suc-le-suc, not-suc-le-zero, mul-le-mul-right, mul-add-mod-self-right, mul-add-div-right, mod-eq-of-lt, div-eq-of-lt, mod-lt, div-lt-iff-lt-mul, div-add-mod'}
 use native.Mathlib.Omega.{arith}
@@ -85,3 +85,9 @@ module _ {A : Type 0} where
     pub pixels-is : (s : List A) (d : A) → length s ≡ h * w → ((x y : ℕ) → x < w → y < h → getD s (index w x y) d ≡ f x y) → s ≡ pixels w h f
     unfolding pixels
     pixels-is s d l e = tabulate-is (h * w) _ s d l (λ i k. rw (index-back w i) at (e (i % w) (i / w) (back-across w h i k) (back-down w h i k)))
+
+-- a list whose elements are turned into others, one by one
+pub tabulate-map : {A B : Type 0} (f : A → B) (s : List A) (d : A) → map f s ≡ tabulate (length s) (λ i. f (getD s i d))
+unfolding tabulate
+tabulate-map f [] d = refl
+tabulate-map f (x ∷ s) d = ap (λ (t : List _). f x ∷ t) (tabulate-map f s d)

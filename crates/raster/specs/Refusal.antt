@@ -4,6 +4,7 @@
 use Prim.Native.Nat.{ℕ}
 use mathlib.Core.Bool.{Bool, cond}
 use mathlib.Core.List.{List, [], _∷_}
+use lib.Dec.{eqb}
 
 abbrev pub Table : Type 0
 Table = List (Bool × ℕ)
@@ -11,3 +12,7 @@ Table = List (Bool × ℕ)
 unfoldable pub firstOf : Table → ℕ
 firstOf [] = 0
 firstOf ((when, number) ∷ rest) = cond when number (firstOf rest)
+
+-- what a call leaves: done, the new value; refused, the old one
+abbrev pub onDone : {A : Type 0} → (answer : ℕ) → A → A → A
+onDone a new old = cond (eqb a 0) new old

@@ -5,11 +5,21 @@ ghost use Prim.Native.Nat.{_+_, _*_, _≤_};
 ghost use lib.Dec.{eqb};
 ghost use lib.IntN.{natAbs, _+ℤ_};
 ghost use lib.ListN.{length, replicate};
+ghost use Rattle.raster.specs.Limits.{side};
 ghost use Rattle.raster.specs.Vector.{Short, Wide, UnitStep, size, unlabelled};
 ghost use Rattle.raster.specs.Map.{Inside, dxAt, dyAt, sizeAt, unlabelledAt, put, unmapped, hasCopper};
 ghost use Rattle.raster.specs.Sheet.{bare, spanned, filled};
 
 pub const MARK: i16 = -32768;
+
+// The longest side of a sheet.
+pub const MAX_SIDE: u16 = 2048;
+
+pub fn is_side(n: u16) -> bool
+    ensures { λ r. ⌜ r ≡ side n ⌝ }
+{
+    (1 <= n) & (n <= MAX_SIDE)
+}
 
 // The pixels of a sheet of w × h.
 pub fn area(w: u16, h: u16) -> usize

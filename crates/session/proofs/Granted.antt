@@ -10,7 +10,7 @@ use lib.Dec.{eqb, leb, ltb}
 use lib.IntN.{ℤ}
 use lib.ListN.{length}
 use borrow.Author.Tests.{leb-true, ltb-true, leb-false, ltb-false, eqb-true, not-true, not-false}
-use Rattle.raster.specs.Limits.{maxSide, maxQ}
+use Rattle.raster.specs.Limits.{maxSide, side, maxQ}
 use Rattle.raster.specs.Refusal.{firstOf}
 use Rattle.raster.specs.RefusalLaws.{none-holds, last-fails, last-holds}
 use Rattle.raster.specs.Tests.{and-left, and-right, or-left, or-right}
@@ -20,7 +20,7 @@ use Rattle.cutter.specs.Kinds.{Maps, hasPixels}
 use Rattle.cutter.specs.Gates.{knownEngine, OnSheet, mayStand, leavesSheet, blocked}
 use Rattle.cutter.proofs.Walk.{on-sheet}
 use Rattle.session.specs.declared.Session.{Session}
-use Rattle.session.specs.State.{side, cutterSound, mapSound, sheetSound, sound, active, cutterOf, ownCutter}
+use Rattle.session.specs.State.{cutterSound, mapSound, sheetSound, sound, active, cutterOf, ownCutter}
 use Rattle.session.specs.Refusals.{notSheet, notMap, notMapBy, shortScratch, openTable, fillTable, buildTable, buildTableBy, placeRows, placeTable, runRows, runTable, resizeTable, resizeTableBy, readTable, probeTable}
 
 both : (a b : Bool) → a && b ≡ true → (a ≡ true) × (b ≡ true)

@@ -4,7 +4,7 @@
 use mathlib.Core.Bool.{Bool, cond, _&&_}
 use mathlib.Core.List.{List, []}
 use Prim.Native.Nat.{ℕ, _*_}
-use lib.Dec.{eqb, ltb}
+use lib.Dec.{ltb}
 use lib.IntN.{ℤ}
 use lib.ListN.{length, take, drop}
 use Rattle.raster.specs.Sheet.{copperOf, filled}
@@ -16,10 +16,6 @@ use Rattle.cutter.specs.Directions.{columnAfter, rowAfter}
 use Rattle.session.specs.declared.Session.{Session}
 use Rattle.session.specs.State.{fresh, sound, active, downAt, upOf, cutterOf, ownCutter}
 use Rattle.session.specs.Refusals.{isMap}
-
--- done: the new value; refused: the old one
-abbrev pub onDone : {A : Type 0} → (answer : ℕ) → A → A → A
-onDone a new old = cond (eqb a 0) new old
 
 -- paint and erase: v is 1 or 0
 abbrev pub filledBy : Session → (x y cols rows v : ℕ) → List ℕ → List ℕ

@@ -8,7 +8,7 @@ use Prim.Native.Nat.{ℕ}
 use lib.Dec.{eqb}
 use lib.IntN.{ℤ}
 use Rattle.raster.specs.Map.{unmapped}
-use Rattle.raster.specs.Refusal.{Table, firstOf}
+use Rattle.raster.specs.Refusal.{Table, firstOf, onDone}
 use Rattle.raster.specs.Sheet.{bare}
 use Rattle.morphology.specs.Resize.{expanded, shrunk}
 use Rattle.cutter.specs.Kinds.{Maps, maps}
@@ -16,7 +16,7 @@ use Rattle.session.specs.declared.Session.{Session}
 use Rattle.session.specs.State.{openedAs, stale, builtBy}
 use Rattle.session.specs.Maps.{mapsBuilt}
 use Rattle.session.specs.Refusals.{openTable, fillTable, buildTable, placeTable, runTable, resizeTable, skeletonTable, rebuildTable, probeTable}
-use Rattle.session.specs.Calls.{onDone, filledBy, scratchBy, placeSession, runSession, liftSession}
+use Rattle.session.specs.Calls.{filledBy, scratchBy, placeSession, runSession, liftSession}
 
 -- ---- the calls
 
@@ -39,7 +39,7 @@ pub data Call : Type 0 where
   skeleton : (out : List ℕ) → Call
   rebuild : (marks out : List ℕ) → Call
   probe : (points : List ℕ) (scratch : List ℤ) (out : List ℕ) → Call
-  -- map row, radius or splitting, which write nothing and hand back no session
+  -- map row, radius, splitting or storing a map, which write neither sheet nor map and hand back no session
   aside : Call
 
 -- what the calls of a list hand on

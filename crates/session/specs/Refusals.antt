@@ -7,7 +7,7 @@ use Prim.Native.Nat.{ℕ, _+_, _*_}
 use lib.Dec.{eqb, leb, ltb}
 use lib.IntN.{ℤ}
 use lib.ListN.{length}
-use Rattle.raster.specs.Limits.{maxQ, maxCount}
+use Rattle.raster.specs.Limits.{side, maxQ, maxCount}
 use Rattle.raster.specs.Map.{hasCopper}
 use Rattle.raster.specs.Refusal.{Table}
 use Rattle.exact.specs.Nearest.{scratchNeed}
@@ -15,7 +15,7 @@ use Rattle.probe.specs.Points.{pointOff, rowsFall}
 use Rattle.cutter.specs.Kinds.{Maps, hasPixels}
 use Rattle.cutter.specs.Gates.{knownEngine, mayStand, leavesSheet, blocked}
 use Rattle.session.specs.declared.Session.{Session}
-use Rattle.session.specs.State.{side, active, cutterOf, ownCutter}
+use Rattle.session.specs.State.{active, cutterOf, ownCutter}
 
 -- a slice of two numbers a pixel
 abbrev pub isMap : Session → List ℤ → Bool

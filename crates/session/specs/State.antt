@@ -3,16 +3,12 @@
 use mathlib.Core.Bool.{Bool, true, false, not, cond, _&&_}
 use Prim.Native.Nat.{ℕ}
 use lib.Dec.{eqb, leb, ltb}
-use Rattle.raster.specs.Limits.{maxSide, maxQ}
+use Rattle.raster.specs.Limits.{side, maxQ}
 use Rattle.cutter.specs.declared.Closest.{Closest}
 use Rattle.cutter.specs.declared.Cutter.{Cutter}
 use Rattle.cutter.specs.Closest.{unmet}
 use Rattle.cutter.specs.Gates.{knownEngine}
 use Rattle.session.specs.declared.Session.{Session}
-
--- a side of 1 to 2,048 pixels
-abbrev pub side : ℕ → Bool
-side n = leb 1 n && leb n maxSide
 
 -- both sides within their limits where a sheet is open; nothing recorded where none is
 unfoldable pub sheetSound : Session → Bool

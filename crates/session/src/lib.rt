@@ -5,7 +5,7 @@ ghost use mathlib.Core.Bool.{cond, _&&_};
 ghost use Prim.Native.Nat.{_<_, _≤_};
 ghost use lib.Dec.{eqb};
 ghost use Rattle.raster.specs.Map.{unmapped};
-ghost use Rattle.raster.specs.Refusal.{firstOf};
+ghost use Rattle.raster.specs.Refusal.{firstOf, onDone};
 ghost use Rattle.raster.specs.Sheet.{bare};
 ghost use Rattle.morphology.specs.Resize.{expanded, shrunk};
 ghost use Rattle.rebuild.specs.Rebuild.{rebuilt};
@@ -26,7 +26,6 @@ ghost use Rattle.session.specs.Refusals.{
   runTable,
 };
 ghost use Rattle.session.specs.Calls.{
-  onDone,
   filledBy,
   scratchBy,
   placeSession,
@@ -175,7 +174,7 @@ impl Session {
     };
 
     // The longest side of a sheet.
-    pub const MAX_SIDE: u16 = 2048;
+    pub const MAX_SIDE: u16 = raster::MAX_SIDE;
 
     // The largest q.
     pub const MAX_Q: u32 = 4194304;

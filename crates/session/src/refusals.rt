@@ -44,7 +44,7 @@ pub fn is_map_by(engine: u16, s: Session, map: &[i16], values: &[u16]) -> bool
 pub fn open_answer(sheet: &[u8], w: u16, h: u16) -> u32
     ensures { λ r. ⌜ r ≡ firstOf (openTable (now (sheet .entry)) w h) ⌝ }
 {
-    if !(state::is_side(w) & state::is_side(h)) {
+    if !(raster::is_side(w) & raster::is_side(h)) {
         return 11;
     }
     if sheet.len() != raster::area(w, h) {

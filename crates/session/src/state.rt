@@ -1,7 +1,6 @@
 // Which sessions are sound, and how a session changes. Each function is the definition of its name in specs/State.
 ghost use mathlib.Core.Path.{_≡_};
 ghost use Rattle.session.specs.State.{
-  side,
   closestSound,
   cutterSound,
   mapSound,
@@ -23,17 +22,11 @@ use cutter::Cutter;
 
 // ---- which are sound
 
-pub fn is_side(n: u16) -> bool
-    ensures { λ r. ⌜ r ≡ side n ⌝ }
-{
-    (1 <= n) & (n <= Session::MAX_SIDE)
-}
-
 fn is_sheet_sound(s: Session) -> bool
     ensures { λ r. ⌜ r ≡ sheetSound s ⌝ }
 {
     if s.opened {
-        return is_side(s.width) & is_side(s.height);
+        return raster::is_side(s.width) & raster::is_side(s.height);
     }
     (s.width == 0) & ((s.height == 0) & !s.current)
 }

@@ -202,7 +202,7 @@ fn hold_to_claims<S: Calls>(seed: u64, count: usize, least: u64) {
     let mut found = Answers::new();
     let mut seeds = Random::new(seed);
     for _ in 0..count {
-        lists::untouched::<S>(Check::Board, seeds.next(), &mut found);
+        lists::under_premise::<S>(Check::Board, seeds.next(), &mut found);
     }
     for (answer, name) in [(0, "place"), (0, "run"), (34, "place"), (34, "run")] {
         assert!(found[&answer][name] > least, "{answer}: {:?}", found[&answer]);

@@ -8,6 +8,7 @@ pub mod plain_exact;
 pub mod plain_probe;
 pub mod plain_resize;
 pub mod plain_skeleton;
+pub mod plain_storage;
 
 #[cfg(test)]
 mod tests {
@@ -19,6 +20,7 @@ mod tests {
     use model::session::{scratch_need, Fields};
     use soak::calls::{Call, Slices};
     use soak::library::Library;
+    use std::collections::BTreeMap;
 
     type Scan = fn(&[u8], &mut [i16], usize, usize, bool);
 
@@ -171,6 +173,64 @@ mod tests {
     #[test]
     fn probe_as_the_model() {
         on_boards(27, check_probe);
+    }
+
+    /// The usual number, or once in eight times one of the odd ones.
+    fn seldom<T: Copy>(usual: T, odd: &[T], random: &mut Random) -> T {
+        if random.below(8) == 0 {
+            odd[random.between(0, odd.len() - 1)]
+        } else {
+            usual
+        }
+    }
+
+    /// Puts one of these numbers somewhere, now and then.
+    fn spoil<T: Copy>(numbers: &mut [T], odd: &[T], random: &mut Random) {
+        let place = random.between(0, 4 * numbers.len());
+        if let Some(number) = numbers.get_mut(place) {
+            *number = odd[random.between(0, odd.len() - 1)];
+        }
+    }
+
+    /// A call that stores or reads back.
+    type Storage<T, U> = fn(u16, u16, &[T], &mut [U]) -> u32;
+
+    /// Stores or reads back in plain Rust and by the model, which must answer and write the same.
+    fn check_storage<T, U: Clone + PartialEq>(
+        [plain, model]: [Storage<T, U>; 2],
+        [w, h]: [u16; 2],
+        source: &[T],
+        mut target: Vec<U>,
+    ) -> u32 {
+        let mut expected = target.clone();
+        let answer = plain(w, h, source, &mut target);
+        assert_eq!(answer, model(w, h, source, &mut expected), "{w}, {h}");
+        assert!(target == expected, "{answer}: {w}, {h}");
+        answer
+    }
+
+    /// Maps of any sides, and bytes. Now and then a side, a length or a number is wrong.
+    #[test]
+    fn storage_as_the_model() {
+        let mut random = Random::new(28);
+        let mut found: BTreeMap<(&str, u32), u32> = BTreeMap::new();
+        for turn in 0..20_000 {
+            let most = if turn % 40 == 0 { 128 } else { 12 };
+            let sides = [(); 2].map(|()| seldom(random.between(1, most) as u16, &[0, 127, 128, 129, 2_048, 2_049], &mut random));
+            let pixels = (usize::from(sides[0]) * usize::from(sides[1])).min(20_000);
+            let [source, target] = [(); 2].map(|()| seldom(2 * pixels, &[0, pixels, 2 * pixels + 1], &mut random));
+            let mut map = model::maps::any_small(pixels, &mut random).concat();
+            let mut bytes: Vec<i8> = map.iter().map(|&number| number.max(-128) as i8).collect();
+            spoil(&mut map, &[128, -128, 32_767, -32_768, 0], &mut random);
+            spoil(&mut bytes, &[-128, 127, 0], &mut random);
+            map.resize(source, 0);
+            bytes.resize(source, 0);
+            let stored = check_storage([plain_storage::store, model::storage::store], sides, &map, vec![7; target]);
+            let read = check_storage([plain_storage::read_back, model::storage::read_back], sides, &bytes, vec![7; target]);
+            *found.entry(("store", stored)).or_default() += 1;
+            *found.entry(("read back", read)).or_default() += 1;
+        }
+        assert!(found.len() == 8 && found.values().all(|&calls| calls > 300), "{found:?}");
     }
 
     /// Slices for a board, now and then of a wrong length. Scratch is about as long as is needed, or about a number a pixel. Points may be

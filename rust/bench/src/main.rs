@@ -8,8 +8,10 @@ mod peers;
 mod stack;
 
 use abi::session::{Probed, Reply, Session};
+use abi::storage;
 use bench::plain_calls::{self, FUSED, PLAIN};
 use bench::plain_exact::scratch_need;
+use bench::plain_storage;
 use cli::Stop;
 use command::Command;
 use model::boards::{self, Board};
@@ -17,6 +19,9 @@ use std::process::ExitCode;
 use std::time::{Duration, Instant};
 
 const SIDES: [usize; 3] = [512, 1_024, 2_048];
+
+/// The longest side of a sheet whose map is stored.
+const STORED_SIDE: usize = 128;
 
 /// The session and the slices of a contender, in which it may write anything, and the rows that it has counted. Before each call the
 /// session has the board's sheet open, and the sheet is the board's.
@@ -31,6 +36,7 @@ struct Slices<'a> {
     points: Vec<u16>,
     distances: Vec<u32>,
     rows: u32,
+    bytes: Vec<i8>,
 }
 
 impl Slices<'_> {
@@ -38,17 +44,18 @@ impl Slices<'_> {
     fn same(&self, other: &Slices) -> bool {
         let (maps, others) = ((&*self.map, &*self.values), (&*other.map, &*other.values));
         let written = self.sheet == other.sheet && maps == others && self.out == other.out && self.distances == other.distances;
-        written && self.session == other.session && self.rows == other.rows
+        written && self.session == other.session && self.rows == other.rows && self.bytes == other.bytes
     }
 }
 
 type Call = fn(&mut Slices) -> Reply;
 
 /// What is timed: a call of the library, the same in plain Rust, and a tuned variant of that if there is one. What they need besides the
-/// sheet is made ready before, off the clock. `lent` is how many bytes the call is lent, a pixel and a column; `pixels` how many of a board
-/// it looks at.
+/// sheet is made ready before, off the clock. `sides` are those of the boards that it is timed on; `lent` is how many bytes the call is
+/// lent, a pixel and a column; `pixels` how many of a board it looks at.
 struct What {
     name: &'static str,
+    sides: &'static [usize],
     lent: [usize; 2],
     pixels: fn(&Board) -> usize,
     ready: fn(&mut Slices),
@@ -132,6 +139,31 @@ fn probe(on: &mut Slices, probe: Probe) -> Reply {
     Reply { answer, session }
 }
 
+/// How many maps are stored or read back one after another, since one takes little time.
+const MAPS: usize = 100;
+
+/// The exact map of the sheet, and room for its bytes.
+fn to_store(on: &mut Slices) {
+    map_of(on);
+    on.bytes = vec![7; on.map.len()];
+}
+
+/// The bytes of the stored map, and other numbers in its place.
+fn to_read_back(on: &mut Slices) {
+    to_store(on);
+    plain_storage::store(on.session.width, on.session.height, on.map, &mut on.bytes);
+    on.map.fill(7);
+}
+
+/// Stores the map or reads it back, again and again.
+fn again<T, U>(session: Session, source: &[T], target: &mut [U], call: fn(u16, u16, &[T], &mut [U]) -> u32) -> Reply {
+    let (w, h) = (session.width, session.height);
+    for _ in 1..MAPS {
+        std::hint::black_box(call(w, h, std::hint::black_box(source), std::hint::black_box(&mut *target)));
+    }
+    Reply { answer: call(w, h, source, target), session }
+}
+
 /// A call that looks at every pixel.
 fn whole(board: &Board) -> usize {
     board.sheet.len()
@@ -141,6 +173,7 @@ fn whole(board: &Board) -> usize {
 const fn build<const ENGINE: u16>(name: &'static str, lent: [usize; 2], fused: Option<Call>) -> What {
     What {
         name,
+        sides: &SIDES,
         lent,
         pixels: whole,
         ready: |_| {},
@@ -154,6 +187,7 @@ const fn build<const ENGINE: u16>(name: &'static str, lent: [usize; 2], fused: O
 const fn probing(name: &'static str, lent: [usize; 2], ready: fn(&mut Slices)) -> What {
     What {
         name,
+        sides: &SIDES,
         lent,
         pixels: whole,
         ready,
@@ -163,7 +197,7 @@ const fn probing(name: &'static str, lent: [usize; 2], ready: fn(&mut Slices)) -
     }
 }
 
-const WHATS: [What; 13] = [
+const WHATS: [What; 15] = [
     build::<1>("exact", [5, 8], Some(fused_build::<1>)),
     build::<2>("8SED", [5, 0], Some(fused_build::<2>)),
     build::<3>("4SED", [5, 0], Some(fused_build::<3>)),
@@ -172,6 +206,7 @@ const WHATS: [What; 13] = [
     build::<6>("chamfer", [3, 0], None),
     What {
         name: "expand",
+        sides: &SIDES,
         lent: [5, 8],
         pixels: whole,
         ready: |_| {},
@@ -181,6 +216,7 @@ const WHATS: [What; 13] = [
     },
     What {
         name: "shrink",
+        sides: &SIDES,
         lent: [5, 8],
         pixels: whole,
         ready: |_| {},
@@ -190,6 +226,7 @@ const WHATS: [What; 13] = [
     },
     What {
         name: "skeleton",
+        sides: &SIDES,
         lent: [5, 0],
         pixels: whole,
         ready: map_of,
@@ -199,6 +236,7 @@ const WHATS: [What; 13] = [
     },
     What {
         name: "rebuild",
+        sides: &SIDES,
         lent: [6, 0],
         pixels: whole,
         ready: skeleton_of,
@@ -208,6 +246,7 @@ const WHATS: [What; 13] = [
     },
     What {
         name: "run",
+        sides: &SIDES,
         lent: [4, 0],
         pixels: |board| RUNS * (board.w - 1),
         ready: lowered,
@@ -218,6 +257,26 @@ const WHATS: [What; 13] = [
     // a point takes 8 bytes; there are as many as columns, or a hundred, which are not counted
     probing("probe", [1, 16], in_every_row),
     probing("probe row", [1, 8], in_one_row),
+    What {
+        name: "store",
+        sides: &[STORED_SIDE],
+        lent: [6, 0],
+        pixels: |board| MAPS * whole(board),
+        ready: to_store,
+        library: |on| again(on.session, on.map, &mut on.bytes, storage::store),
+        plain: |on| again(on.session, on.map, &mut on.bytes, plain_storage::store),
+        fused: None,
+    },
+    What {
+        name: "read back",
+        sides: &[STORED_SIDE],
+        lent: [6, 0],
+        pixels: |board| MAPS * whole(board),
+        ready: to_read_back,
+        library: |on| again(on.session, &on.bytes, on.map, storage::read_back),
+        plain: |on| again(on.session, &on.bytes, on.map, plain_storage::read_back),
+        fused: None,
+    },
 ];
 
 /// The memory of one contender, enough for boards up to some side.
@@ -237,7 +296,7 @@ impl Memory {
         Memory { sheet: bytes.clone(), map, values, scratch, marks: bytes.clone(), out: bytes }
     }
 
-    /// The slices for a board, with its sheet, no more scratch than is needed, and no points. The others are as they were.
+    /// The slices for a board, with its sheet, no more scratch than is needed, no points and no stored map. The others are as they were.
     fn lend(&mut self, board: &Board) -> Slices<'_> {
         let &Board { w, h, ref sheet } = board;
         self.sheet[..w * h].copy_from_slice(sheet);
@@ -253,6 +312,7 @@ impl Memory {
             points: Vec::new(),
             distances: Vec::new(),
             rows: 0,
+            bytes: Vec::new(),
         }
     }
 }
@@ -372,7 +432,7 @@ fn timed(rounds: usize, calls: &[&str]) -> Vec<Line> {
     let mut lines = Vec::new();
     for what in WHATS.iter().filter(|what| calls.is_empty() || calls.contains(&what.name)) {
         for name in boards::BENCHMARK {
-            lines.extend(SIDES.map(|side| Line::new(what, name, side)));
+            lines.extend(what.sides.iter().map(|&side| Line::new(what, name, side)));
         }
     }
     // memories for two contenders and for three: those that are used together hold the same before each call
@@ -414,17 +474,18 @@ fn exact_of(line: &Line, lines: &[Line]) -> Option<f64> {
 
 /// The lines under their head.
 fn table(rounds: usize, lines: &[Line]) -> String {
-    let mut text = format!("ns a pixel, the shortest of {rounds} runs of each (twice as many at 1,024, four times at 512)\n");
+    let mut text = format!("ns a pixel, the shortest of {rounds} runs of each (twice as many at 1,024, four times at 512, 16 at 128)\n");
     text += "each ratio is the library's time to the one before it; plain is the same call in plain Rust, and fused a tuned variant:\n";
     text += "exact works a column's cost out when it is asked for; the scans take the row before and the sweep to the right in one pass,\n";
     text += "test only a row's first pixel for a label, and start a sweep at the first labelled pixel; to exact is the library's time to\n";
     text += "that of its exact map of the board, if this is timed too; a run's pixels are those it comes to, and a probe's those of the\n";
-    text += "sheet, with a point in every row, or for probe row a hundred in row 8\n\n";
+    text += "sheet, with a point in every row, or for probe row a hundred in row 8; store and read back are timed at 128 alone, by the\n";
+    text += "hundred, for no longer sides are stored\n\n";
     text += &format!(
         "{:10}  {:11}  {:>4}  {:>7}  {:>5}  {:>5}  {:>5}  {:>5}  {:>8}  {:>7}  library 2,048 / 512\n",
         "call", "board", "side", "library", "plain", "ratio", "fused", "ratio", "to exact", "lent"
     );
-    for sides in lines.chunks(SIDES.len()) {
+    for sides in lines.chunk_by(|one, next| (one.what, one.name) == (next.what, next.name)) {
         for line in sides {
             let [library, plain, fused] = [0, 1, 2].map(|which| line.nanoseconds(which));
             let over = |other: Option<f64>| Some(library? / other?);

@@ -3,8 +3,9 @@
 //! The stack below a function is painted with a pattern, and then a call is made there. How far down the pattern is gone is read in
 //! `/proc/self/mem`, Linux's file of a process's own memory, for no safe code can look at the part of a stack that nobody holds.
 
-use crate::{bare_row, lowered, map_of, plain_build, Call, Memory, Slices, WHATS};
+use crate::{bare_row, lowered, map_of, plain_build, Call, Memory, Slices, STORED_SIDE, WHATS};
 use abi::session::Reply;
+use abi::storage;
 use model::boards;
 use std::fs::File;
 use std::hint::black_box;
@@ -29,8 +30,8 @@ const ROOM: usize = 1 << 14;
 /// A call by its name, and what it needs besides the sheet.
 type Measured = (&'static str, fn(&mut Slices), Call);
 
-/// The calls that are not timed, and a single run, since many are timed together. Place and run come over either kind of map.
-const OTHERS: [Measured; 9] = [
+/// The calls that are not timed, and of those of which many are timed together a single one. Place and run come over either kind of map.
+const OTHERS: [Measured; 11] = [
     ("open", |_| {}, |on| on.session.open(on.sheet, SIDE, SIDE)),
     ("paint", |_| {}, |on| on.session.paint(on.sheet, 0, 0, SIDE, SIDE)),
     ("erase", |_| {}, |on| on.session.erase(on.sheet, 0, 0, SIDE, SIDE)),
@@ -43,7 +44,19 @@ const OTHERS: [Measured; 9] = [
         let row = on.session.map_row(on.map, SIDE - 1);
         Reply { answer: u32::from(row.is_empty()), session: on.session }
     }),
+    ("store", small, |on| Reply { answer: storage::store(SMALL, SMALL, &on.map[..NUMBERS], &mut on.bytes), session: on.session }),
+    ("read back", small, |on| Reply { answer: storage::read_back(SMALL, SMALL, &on.bytes, &mut on.map[..NUMBERS]), session: on.session }),
 ];
+
+/// The longest side of a sheet whose map is stored, and how many numbers that map has.
+const SMALL: u16 = STORED_SIDE as u16;
+const NUMBERS: usize = 2 * STORED_SIDE * STORED_SIDE;
+
+/// A map that can be stored in the first part of the pairs, and room for its bytes, which can be read back.
+fn small(on: &mut Slices) {
+    on.map[..NUMBERS].fill(7);
+    on.bytes = vec![0; NUMBERS];
+}
 
 fn place(on: &mut Slices) -> Reply {
     on.session.place(on.map, on.values, 0, 0, 0)
@@ -69,7 +82,8 @@ fn lowered_draft(on: &mut Slices) {
 pub fn table() -> io::Result<String> {
     let thread = thread::Builder::new().stack_size(STACK).spawn(measure)?;
     let lines = thread.join().expect("every call is done, on less of the stack than is painted")?;
-    let mut text = format!("the stack that a call takes at {SIDE} × {SIDE}, in bytes, the most on any board\n\n");
+    let sides = format!("{SIDE} × {SIDE}, store and read back at {SMALL} × {SMALL}");
+    let mut text = format!("the stack that a call takes at {sides}, in bytes, the most on any board\n\n");
     for (name, bytes) in lines {
         text += &format!("{name:15}  {bytes:>6}\n");
     }
@@ -78,8 +92,9 @@ pub fn table() -> io::Result<String> {
 
 /// The most bytes of the stack that each call takes on one of the benchmark's boards.
 fn measure() -> io::Result<Vec<(&'static str, usize)>> {
-    // a run comes by itself below, and of the probes one is enough
-    let timed = WHATS.iter().filter(|what| !["run", "probe row"].contains(&what.name)).map(|what| (what.name, what.ready, what.library));
+    // a single run, store and read back stand among the others, and of the probes one is enough
+    let passed_over = ["run", "probe row", "store", "read back"];
+    let timed = WHATS.iter().filter(|what| !passed_over.contains(&what.name)).map(|what| (what.name, what.ready, what.library));
     let calls: Vec<Measured> = timed.chain(OTHERS).collect();
     let mut lines: Vec<_> = calls.iter().map(|&(name, ..)| (name, 0)).collect();
     let mut memory = Memory::new(SIDE.into());

@@ -16,6 +16,7 @@ pub mod resize;
 pub mod scans;
 pub mod session;
 pub mod skeleton;
+pub mod storage;
 
 /// Radius and pitch in micrometres to the answer number and q, by bisection and with no division.
 pub fn radius(r: u32, p: u32) -> (u32, u32) {

@@ -30,6 +30,18 @@ pub fn any_values(pixels: usize, random: &mut Random) -> Vec<u16> {
     (0..pixels).map(|_| value(kinds, random)).collect()
 }
 
+/// A map that can be stored in a byte a component, if its sides are short enough.
+pub fn any_small(pixels: usize, random: &mut Random) -> Vec<[i16; 2]> {
+    let unlabelled = [0, 1, 9, 20][random.below(4) as usize];
+    (0..pixels).map(|_| if random.below(20) < unlabelled { UNLABELLED } else { small(random) }).collect()
+}
+
+/// A labelled vector of such a map, now and then at a limit.
+fn small(random: &mut Random) -> [i16; 2] {
+    let any = [random.between(0, 254) as i16 - 127, random.between(0, 254) as i16 - 127];
+    any.map(|number| [number, number, number, -127, 127, 0][random.below(6) as usize])
+}
+
 /// A value of one of the first kinds of those below.
 fn value(kinds: u64, random: &mut Random) -> u16 {
     match random.below(kinds) {

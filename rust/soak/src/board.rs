@@ -1,5 +1,5 @@
 //! The plain board of document 01 with the pixels visited of document 02, and what the lists of calls promise of it. It is fed each call's
-//! numbers, points and answer alone, and all distances are by brute force.
+//! numbers, points and answer alone, and is told when something else has written the maps. All distances are by brute force.
 
 use crate::calls::{Call, Slices};
 use model::session::Fields;
@@ -10,8 +10,9 @@ use std::fmt::Debug;
 /// A pixel, which may be off the sheet.
 type Pixel = (i64, i64);
 
-/// Sides, copper, engine, the lowered cutter, and the pixels visited since the last placing that was done.
-#[derive(Debug, Default)]
+/// Sides, copper, engine, the lowered cutter, and the pixels visited since the last placing that was done. The maps are the session's own
+/// if nothing else has written them since the last build that was done.
+#[derive(Debug)]
 pub struct Board {
     w: u16,
     h: u16,
@@ -19,6 +20,14 @@ pub struct Board {
     engine: u16,
     cutter: Option<(Pixel, u32)>,
     visited: BTreeSet<Pixel>,
+    own: bool,
+}
+
+/// Nothing is open, and nothing else has written the maps.
+impl Default for Board {
+    fn default() -> Self {
+        Board { w: 0, h: 0, copper: BTreeSet::new(), engine: 0, cutter: None, visited: BTreeSet::new(), own: true }
+    }
 }
 
 /// What the list holds after a call.
@@ -129,12 +138,12 @@ impl Board {
     /// Feeds the board a call that was done.
     fn done(&mut self, call: Call) {
         match call {
-            Call::Open { w, h } => *self = Board { w, h, ..Board::default() },
+            Call::Open { w, h } => *self = Board { w, h, own: self.own, ..Board::default() },
             Call::Paint { x, y, w, h } => self.copper.extend(rectangle([x, y], [w, h])),
             Call::Erase { x, y, w, h } => rectangle([x, y], [w, h]).for_each(|pixel| {
                 self.copper.remove(&pixel);
             }),
-            Call::Build { engine } => self.engine = engine,
+            Call::Build { engine } => (self.engine, self.own) = (engine, true),
             Call::Place { .. } | Call::Run { .. } => {
                 let tested = self.tested(call);
                 if matches!(call, Call::Place { .. }) {
@@ -160,38 +169,64 @@ impl Board {
         }
     }
 
-    /// Feeds the board a call and its answer, and asserts what is promised of every call of a list: a cutter that is brought down or run
-    /// comes to no pixel with copper within q, and on the way of a run to no such point; one that is turned away with 34 had a pixel with
-    /// copper within q, or on the quick maps and the drafts within the engine's fraction of it; a probe tells the distances of its points;
-    /// session and sheet agree with the board; the closest approach is recorded.
+    /// Tells the board that something else than a call has written the maps. What is promised over them lapses until a build is done.
+    pub fn written(&mut self) {
+        self.own = false;
+    }
+
+    /// Feeds the board a call and its answer, and asserts what is promised of every call of a list: a probe tells the distances of its
+    /// points; session and sheet agree with the board. While the maps are the session's own this is promised too: a cutter that is brought
+    /// down or run comes to no pixel with copper within q, and on the way of a run to no such point; one that is turned away with 34 had a
+    /// pixel with copper within q, or on the quick maps and the drafts within the engine's fraction of it; the closest approach is
+    /// recorded.
     pub fn feed(&mut self, call: Call, answer: u32, left: &Left, about: &impl Debug) {
         let tested = self.tested(call);
         let on_sheet = |(x, y): Pixel| (0..self.w.into()).contains(&x) && (0..self.h.into()).contains(&y);
         let all_on_sheet = tested.iter().all(|&(pixel, _)| on_sheet(pixel));
         assert!(![0, 34].contains(&answer) || all_on_sheet, "{answer} off the sheet: {about:?}");
+        assert!(answer != 34 || self.engine != 0, "34 without a map: {about:?}");
+        if self.own {
+            self.gated(call, answer, &tested, about);
+        }
+        if answer == 0 {
+            if call == Call::Probe {
+                self.probed(left.slices, about);
+            }
+            self.done(call);
+        }
+        self.agrees(left.session, left.sheet, about);
+        if self.own {
+            self.stands_clear(about);
+            self.approached(left, about);
+        }
+    }
+
+    /// Asserts what the gate promises of a place or run that is done, and of one that is turned away with 34.
+    fn gated(&self, call: Call, answer: u32, tested: &[(Pixel, u32)], about: &impl Debug) {
         match answer {
             0 => {
-                for &(pixel, q) in &tested {
+                for &(pixel, q) in tested {
                     assert!(!self.near(pixel, q.into()), "copper within {q} of {pixel:?}: {about:?}");
                 }
                 if let (Call::Run { .. }, Some(start)) = (call, self.cutter) {
-                    for (&(from, q), &(to, _)) in std::iter::once(&start).chain(&tested).zip(&tested) {
+                    for (&(from, q), &(to, _)) in std::iter::once(&start).chain(tested).zip(tested) {
                         assert!(!self.near_between(from, to, q.into()), "copper within {q} between {from:?} and {to:?}: {about:?}");
                     }
                 }
-                if call == Call::Probe {
-                    self.probed(left.slices, about);
-                }
-                self.done(call);
             }
             34 => {
                 let within = |&(pixel, q): &(Pixel, u32)| self.near(pixel, refused_within(self.engine, q));
-                assert!(self.engine != 0 && tested.iter().any(within), "34 with all copper far off: {about:?}");
+                assert!(tested.iter().any(within), "34 with all copper far off: {about:?}");
             }
             _ => {}
         }
-        self.agrees(left.session, left.sheet, about);
-        self.approached(left, about);
+    }
+
+    /// Asserts that a lowered cutter stands clear of copper.
+    fn stands_clear(&self, about: &impl Debug) {
+        if let Some((pixel, q)) = self.cutter {
+            assert!(!self.near(pixel, q.into()), "copper within {q} of the cutter: {about:?}");
+        }
     }
 
     /// Asserts that a probe has told for each point the least squared distance to copper, or without copper the largest number that there
@@ -221,18 +256,116 @@ impl Board {
         }
     }
 
-    /// Asserts that session and sheet agree with the board, and that a lowered cutter stands clear of copper.
+    /// Asserts that session and sheet agree with the board.
     fn agrees(&self, session: &Fields, sheet: &[u8], about: &impl Debug) {
         assert_eq!((session.width, session.height, session.engine), (self.w, self.h, self.engine), "sides and engine: {about:?}");
         assert_eq!((session.opened, session.current), (self.w != 0, self.engine != 0), "open and current: {about:?}");
         let cutter = session.lowered.then_some(((session.x.into(), session.y.into()), session.q));
         assert_eq!(cutter, self.cutter, "the cutter: {about:?}");
-        if let Some((pixel, q)) = cutter {
-            assert!(!self.near(pixel, q.into()), "copper within {q} of the cutter: {about:?}");
-        }
         if session.opened {
             let agrees = |(pixel, &byte): (Pixel, &u8)| (byte != 0) == self.copper.contains(&pixel);
             assert!(sheet.len() == self.pixels().count() && self.pixels().zip(sheet).all(agrees), "the copper: {about:?}");
         }
+    }
+}
+
+#[cfg(test)]
+mod tests {
+    use super::*;
+
+    const OPEN: Fields = Fields { opened: true, width: 3, height: 1, ..Fields::FRESH };
+    const BUILT: Fields = Fields { current: true, engine: 1, ..OPEN };
+    const BUILD: Call = Call::Build { engine: 1 };
+    const ON_COPPER: Call = Call::Place { x: 0, y: 0, q: 1 };
+    const FAR_OFF: Call = Call::Place { x: 2, y: 0, q: 1 };
+
+    /// Feeds a board a call that leaves this session, the map of three pixels in a row and copper at the first.
+    fn feed(board: &mut Board, call: Call, answer: u32, session: Fields) {
+        let (sheet, map, slices) = ([u8::from(session.current), 0, 0], [0, 0, -1, 0, -2, 0], Slices::default());
+        board.feed(call, answer, &Left { session: &session, sheet: &sheet, map: &map, values: &[], slices: &slices }, &"a test");
+    }
+
+    /// A board with that copper and its exact map.
+    fn built() -> Board {
+        let mut board = Board { copper: BTreeSet::from([(0, 0)]), w: 3, h: 1, ..Board::default() };
+        feed(&mut board, BUILD, 0, BUILT);
+        board
+    }
+
+    /// The session with the cutter down on the copper, which no gate lets it. The size recorded there is on no map.
+    fn down() -> Fields {
+        Fields { lowered: true, q: 1, met: true, closest: 9, ..BUILT }
+    }
+
+    /// A wrong answer of either kind on a board.
+    fn wrong(board: &mut Board, answer: u32) {
+        match answer {
+            0 => feed(board, ON_COPPER, 0, down()),
+            _ => feed(board, FAR_OFF, 34, BUILT),
+        }
+    }
+
+    #[test]
+    #[should_panic(expected = "copper within 1 of (0, 0)")]
+    fn passes_every_cutter() {
+        wrong(&mut built(), 0);
+    }
+
+    #[test]
+    #[should_panic(expected = "34 with all copper far off")]
+    fn turns_all_away() {
+        wrong(&mut built(), 34);
+    }
+
+    /// After a write by something else neither is claimed, nor are they after an opening, which builds nothing.
+    #[test]
+    fn lapse() {
+        for answer in [0, 34] {
+            let mut board = built();
+            board.written();
+            wrong(&mut board, answer);
+            let mut board = built();
+            board.written();
+            feed(&mut board, Call::Open { w: 3, h: 1 }, 0, OPEN);
+            assert!(!board.own);
+        }
+    }
+
+    /// A build that is refused does not bring the claims back.
+    #[test]
+    fn lapse_over_refused_build() {
+        for answer in [0, 34] {
+            let mut board = built();
+            board.written();
+            feed(&mut board, Call::Build { engine: 7 }, 14, BUILT);
+            wrong(&mut board, answer);
+        }
+    }
+
+    #[test]
+    #[should_panic(expected = "copper within 1 of (0, 0)")]
+    fn claims_after_build() {
+        let mut board = built();
+        board.written();
+        feed(&mut board, BUILD, 0, BUILT);
+        wrong(&mut board, 0);
+    }
+
+    #[test]
+    #[should_panic(expected = "34 with all copper far off")]
+    fn fairness_after_build() {
+        let mut board = built();
+        board.written();
+        feed(&mut board, BUILD, 0, BUILT);
+        wrong(&mut board, 34);
+    }
+
+    /// Agreement goes on after a write.
+    #[test]
+    #[should_panic(expected = "the cutter")]
+    fn agreement_after_write() {
+        let mut board = built();
+        board.written();
+        feed(&mut board, ON_COPPER, 34, down());
     }
 }

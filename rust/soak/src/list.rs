@@ -16,7 +16,8 @@ use std::fmt;
 pub enum Check {
     /// Compared with the model: answer, session and every slice.
     Model,
-    /// Held against the plain board. This is for lists in which nothing but the calls touches session, sheet and maps.
+    /// Held against the plain board. This is for lists in which nothing but the calls touches session and sheet, and nothing but they and
+    /// [`List::write`] the maps.
     Board,
     /// Both.
     Both,
@@ -33,8 +34,16 @@ pub struct List<S> {
     pub values: Vec<u16>,
     check: Check,
     board: Board,
-    made: Vec<(Call, u32)>,
+    made: Vec<Entry>,
     seed: u64,
+}
+
+/// What a list is made of.
+enum Entry {
+    /// A call and its answer.
+    Made(Call, u32),
+    /// A write of the maps by something else.
+    Write,
 }
 
 /// How many calls had each answer, by the name of the call.
@@ -57,7 +66,10 @@ impl<S: Calls> fmt::Debug for Story<'_, S> {
         if sheet.len() <= 200 {
             writeln!(f, "sheet {sheet:?}\nmap {map:?}\nvalues {values:?}\nmarks {marks:?}\npoints {points:?}")?;
         }
-        list.made.iter().try_for_each(|(call, answer)| writeln!(f, "{answer} {call:?}"))
+        list.made.iter().try_for_each(|entry| match entry {
+            Entry::Made(call, answer) => writeln!(f, "{answer} {call:?}"),
+            Entry::Write => writeln!(f, "the maps are written by something else"),
+        })
     }
 }
 
@@ -168,8 +180,16 @@ impl<S: Calls> List<S> {
             self.board = board;
         }
         self.session = session;
-        self.made.push((call, answer));
+        self.made.push(Entry::Made(call, answer));
         (answer, after)
+    }
+
+    /// Writes the maps as something else than a call may: with any numbers, and no longer or shorter than they are.
+    pub fn write(&mut self, map: Vec<i16>, values: Vec<u16>) {
+        assert_eq!((map.len(), values.len()), (self.map.len(), self.values.len()), "a write keeps the lengths");
+        (self.map, self.values) = (map, values);
+        self.board.written();
+        self.made.push(Entry::Write);
     }
 
     /// Asserts that the model answers the same, and hands back the same session and slices.
@@ -196,10 +216,17 @@ impl<S: Calls> List<S> {
         assert!(std::ptr::eq(row, expected), "map row {y} before {story:?}");
     }
 
+    /// How many times something else has written the maps.
+    pub fn writes(&self) -> usize {
+        self.made.iter().filter(|entry| matches!(entry, Entry::Write)).count()
+    }
+
     /// Adds the calls of the list to those counted.
     pub fn count(&self, answers: &mut Answers) {
-        for (call, answer) in &self.made {
-            *answers.entry(*answer).or_default().entry(call.name()).or_default() += 1;
+        for entry in &self.made {
+            if let Entry::Made(call, answer) = entry {
+                *answers.entry(*answer).or_default().entry(call.name()).or_default() += 1;
+            }
         }
     }
 }

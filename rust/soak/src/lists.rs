@@ -5,35 +5,37 @@ use crate::list::{Answers, Check, List};
 use model::calls::Calls;
 use model::random::Random;
 use model::session::Fields;
-use model::{boards, points};
+use model::{boards, points, storage};
 
-/// Makes a number of random lists, half of them tampered with between the calls and half not, and counts the calls by their answers. Each
-/// list has a seed of its own, drawn from this one, which a failure names.
+/// Makes a number of random lists, half of them tampered with between the calls and half under the premise of the claims, and counts the
+/// calls by their answers. Each list has a seed of its own, drawn from this one, which a failure names.
 pub fn make<S: Calls>(seed: u64, lists: usize, answers: &mut Answers) {
     let mut seeds = Random::new(seed);
     for turn in 0..lists {
         if turn % 2 == 0 {
-            untouched::<S>(Check::Both, seeds.next(), answers);
+            under_premise::<S>(Check::Both, seeds.next(), answers);
         } else {
-            list::<S>(Check::Model, true, seeds.next(), answers);
+            list::<S>(Check::Model, true, seeds.next()).count(answers);
         }
     }
 }
 
-/// A list in which nothing but the calls touches session, sheet and maps.
-pub fn untouched<S: Calls>(check: Check, seed: u64, answers: &mut Answers) {
-    list::<S>(check, false, seed, answers);
+/// A list under the premise of the claims: nothing but the calls touches session and sheet. Now and then something else writes the maps.
+pub fn under_premise<S: Calls>(check: Check, seed: u64, answers: &mut Answers) {
+    list::<S>(check, false, seed).count(answers);
 }
 
 /// A list of calls. If it is tampered with, session, sheet and maps are changed between the calls now and then, and slices of wrong lengths
-/// are lent.
-fn list<S: Calls>(check: Check, tampered: bool, seed: u64, answers: &mut Answers) {
+/// are lent. Otherwise something else writes the maps, seldom, and half of the times a build comes at once.
+fn list<S: Calls>(check: Check, tampered: bool, seed: u64) -> List<S> {
     let mut random = Random::new(seed);
     let mut list = List::<S>::new(check, seed, &mut random);
     let mut planned = Vec::new();
     for _ in 0..random.between(8, 40) {
         if tampered {
             tamper(&mut list, &mut random);
+        } else if random.below(SELDOM_WRITTEN) == 0 && write(&mut list, &mut random) && random.below(2) == 0 {
+            planned.push(Call::Build { engine: any_engine(&mut random) as u16 });
         }
         let call = planned.pop().unwrap_or_else(|| any_call(&list, &mut random));
         let mut slices = any_slices(&list, call, &mut random);
@@ -49,7 +51,7 @@ fn list<S: Calls>(check: Check, tampered: bool, seed: u64, answers: &mut Answers
             }
         }
     }
-    list.count(answers);
+    list
 }
 
 /// A call that leads on from where the list stands, or any.
@@ -275,6 +277,38 @@ fn misfit(slices: &mut Slices, random: &mut Random) {
     distances.resize(length(distances.len()), 1);
 }
 
+/// Once in so many calls something else writes the maps, so that the claims hold over most lists from end to end.
+const SELDOM_WRITTEN: u64 = 60;
+
+/// Writes the maps as something else than a call may: any numbers into both, or a stored map into the pairs. False if the stored map is
+/// turned away, which writes nothing.
+fn write<S: Calls>(list: &mut List<S>, random: &mut Random) -> bool {
+    let (mut map, mut values) = (list.map.clone(), list.values.clone());
+    if random.below(2) == 0 {
+        tamper_map(&mut map, random);
+        tamper_values(&mut values, random);
+    } else if !read_back(&list.session(), &mut map, random) {
+        return false;
+    }
+    list.write(map, values);
+    true
+}
+
+/// Reads bytes back into the pairs: any, or the pairs as they are stored, if they can be, with some bytes changed. Whether it was done.
+fn read_back(session: &Fields, map: &mut [i16], random: &mut Random) -> bool {
+    let (w, h) = (session.width, session.height);
+    let mut bytes: Vec<i8> = map.iter().map(|_| random.next() as i8).collect();
+    if random.below(3) > 0 {
+        storage::store(w, h, map, &mut bytes);
+    }
+    for _ in 0..random.below(5) {
+        if let Some(pixel) = bytes.as_chunks_mut().0.get_mut(random.between(0, map.len() / 2)) {
+            *pixel = [[0, 0], [1, -1], [-127, 127], [-128, -128], [-128, 0]][random.below(5) as usize];
+        }
+    }
+    storage::read_back(w, h, &bytes, map) == 0
+}
+
 /// Changes session, maps and sheet now and then.
 fn tamper<S: Calls>(list: &mut List<S>, random: &mut Random) {
     if random.below(8) == 0 {
@@ -436,5 +470,59 @@ mod tests {
             let calls = found.get(&(lowered, answer, descends)).copied().unwrap_or(0);
             assert!(calls > 50, "lowered {lowered}, descends {descends}: {calls} with {answer}");
         }
+    }
+
+    /// Whether copper is within q of where the cutter stands.
+    fn near(list: &List<Fields>) -> bool {
+        let Fields { width, height, x, y, q, .. } = list.session();
+        let distance = model::nearest::squared(&list.sheet, width.into(), height.into(), x.into(), y.into());
+        distance.is_some_and(|distance| distance <= q.into())
+    }
+
+    /// Each of place and run is often done and often turned away by the gate before any write, while the claims have lapsed, and after a
+    /// build has brought them back. While they have lapsed the cutter often stands too near, and otherwise never.
+    #[test]
+    fn writes() {
+        let mut random = Random::new(4);
+        let mut found: BTreeMap<(&'static str, &'static str, u32), u32> = BTreeMap::new();
+        let (mut writes, mut too_near) = ([0; 2], 0);
+        for seed in 0..6_000 {
+            let mut list = List::<Fields>::new(Check::Both, seed, &mut random);
+            let (mut own, mut since) = (true, "before");
+            for _ in 0..30 {
+                if random.below(20) == 0 {
+                    let done = write(&mut list, &mut random);
+                    writes[usize::from(done)] += 1;
+                    (own, since) = if done { (false, "lapsed") } else { (own, since) };
+                }
+                let call = if !own && random.below(8) == 0 { Call::Build { engine: 1 } } else { any_call(&list, &mut random) };
+                let slices = any_slices(&list, call, &mut random);
+                let (answer, _) = list.lend(call, slices, &mut random);
+                if matches!(call, Call::Build { .. }) && answer == 0 && !own {
+                    (own, since) = (true, "back");
+                }
+                *found.entry((since, call.name(), answer)).or_default() += 1;
+                let near = list.session().lowered && near(&list);
+                assert!(!own || !near);
+                too_near += u32::from(near);
+            }
+        }
+        for since in ["before", "lapsed", "back"] {
+            for (name, answer) in ["place", "run"].into_iter().flat_map(|name| [0, 34].map(|answer| (name, answer))) {
+                let calls = found.get(&(since, name, answer)).copied().unwrap_or(0);
+                assert!(calls > 200, "{since}, {name}: {calls} with {answer}");
+            }
+        }
+        assert!(writes.iter().all(|&writes| writes > 200) && too_near > 1_000, "{writes:?}, {too_near} too near");
+    }
+
+    /// Most lists have no write, and many have one or several.
+    #[test]
+    fn seldom_written() {
+        let mut lists = BTreeMap::new();
+        for seed in 0..3_000 {
+            *lists.entry(list::<Fields>(Check::Both, false, seed).writes().min(2)).or_insert(0) += 1;
+        }
+        assert!(lists[&0] > 2_000 && lists[&1] > 300 && lists[&2] > 50, "{lists:?}");
     }
 }

@@ -8,10 +8,9 @@ use lib.Dec.{eqb, leb}
 use lib.ListN.{length}
 use borrow.Author.Needs.{needs}
 use borrow.Author.Tests.{leb-true, eqb-true}
-use Rattle.raster.specs.Limits.{maxSide}
+use Rattle.raster.specs.Limits.{maxSide, side}
 use Rattle.raster.specs.Tests.{and-left, and-right}
 use Rattle.chamfer.specs.Chamfer.{Weights}
-use Rattle.session.specs.State.{side}
 use Rattle.abi.specs.Weighted.{canMap}
 use Rattle.abi.proofs.abi_chamfer_map.Statement.{statement}
 use Rattle.abi.proofs.abi_chamfer_map.Tie as tie

@@ -4,8 +4,8 @@ use mathlib.Core.Path.{_≡_, sym, _∙_}
 use mathlib.Core.Bool.{false, not, _&&_}
 use borrow.Author.Needs.{needs}
 use borrow.Author.Tests.{eq-eqb, ne-eqb}
+use Rattle.raster.specs.Limits.{side}
 use Rattle.raster.specs.Refusal.{firstOf}
-use Rattle.session.specs.State.{side}
 use Rattle.session.specs.Refusals.{openTable}
 use Rattle.session.proofs.refusals.open_answer.Statement.{statement}
 use Rattle.session.proofs.refusals.open_answer.Tie as tie
