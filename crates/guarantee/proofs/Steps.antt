@@ -295,7 +295,8 @@ module _ {b : Board} {w : World} {own : Bool} (inv : Inv b w own) where
       (down-sound s (inv .fine) x y q _ (with-says-none _ (w .maps) _ unmet refl) (g .current) (g .across) (g .down) (g .small))
       (λ o. ((λ l. free o g (r .1)), met g)))
     where
-      free : own ≡ true → Placing s (w .maps) x y q → passesAt (s .engine) (w .maps) (index (s .width) x y) q ≡ true → Clear (copperOf (w .sheet) (s .width)) (s .width) (s .height) x y q
+      free : own ≡ true → Placing s (w .maps) x y q → passesAt (s .engine) (w .maps) (index (s .width) x y) q ≡ true
+          → Clear (copperOf (w .sheet) (s .width)) (s .width) (s .height) x y q
       free o g p = passed-clear inv o (g .open-sheet) (g .current) x y q (g .across) (g .down) p
 
       met : Placing s (w .maps) x y q → Approach (s .engine) (w .maps) (s .width) (s .height) ((pos x, pos y) ∷ []) (closestAt (cutterOf s x y q) (w .maps) unmet)

@@ -25,13 +25,13 @@ use Rattle.candidate.specs.OnSheet.{OnCopper}
 use Rattle.scan.proofs.Theorems as scan
 use Rattle.exact.specs.Nearest.{exactMap}
 use Rattle.exact.proofs.Theorems as exact
-use Rattle.storage.specs.Stored.{smallComponent, storable, lengthRows, storeTable}
+use Rattle.storage.specs.Stored.{smallComponent, storable, maxStoredSide, lengthRows, storeTable}
 use Rattle.session.specs.declared.Session.{Session}
 use Rattle.session.specs.Maps.{enginePairs}
 use Rattle.session.specs.Lists.{build, World, answer, worldAfter}
 use Rattle.session.proofs.Granted.{build-granted, active-sides, active-limits}
 
-module _ (copper : Mask) (w h : ℕ) (wide : w ≤ 128) (tall : h ≤ 128) (m : List ℤ) (c : OnCopper copper w h m) where
+module _ (copper : Mask) (w h : ℕ) (wide : w ≤ maxStoredSide) (tall : h ≤ maxStoredSide) (m : List ℤ) (c : OnCopper copper w h m) where
   -- every pixel is unlabelled, or shorter than the sides
   pixel-storable : (p : ℕ) → p < h * w → storable m p ≡ true
   pixel-storable p l = go (unlabelledAt m p) refl
@@ -53,7 +53,7 @@ module _ (copper : Mask) (w h : ℕ) (wide : w ≤ 128) (tall : h ≤ 128) (m : 
   unfolding storeTable lengthRows firstOf
   on-copper-storable bytes sides room =
       let none : anyBelow (h * w) (λ p. not (storable m p)) ≡ false = any-none (h * w) _ (λ p l. ap not (pixel-storable p l)) in
-      rw (sides, eq-eqb _ _ (c .long), eq-eqb _ _ room, le-ltb 128 w wide, le-ltb 128 h tall, none) refl
+      rw (sides, eq-eqb _ _ (c .long), eq-eqb _ _ room, le-ltb maxStoredSide w wide, le-ltb maxStoredSide h tall, none) refl
 
 -- the exact map's labelled vectors end on copper
 exact-on-copper : (copper : Mask) (w h : ℕ) → w ≤ maxSide → h ≤ maxSide → OnCopper copper w h (exactMap copper w h)
@@ -70,7 +70,7 @@ pairs-on-copper s sheet e wide tall whole =
 
 -- whatever build with one of them leaves, store takes
 pub built-storable : (w : World) (e : ℕ) (scratch bytes : List ℤ) → answer (build e scratch) w ≡ 0 → e ≤ 3
-    → w .session .width ≤ 128 → w .session .height ≤ 128 → length bytes ≡ 2 * (w .session .height * w .session .width)
+    → w .session .width ≤ maxStoredSide → w .session .height ≤ maxStoredSide → length bytes ≡ 2 * (w .session .height * w .session .width)
     → firstOf (storeTable (w .session .width) (w .session .height) (worldAfter (build e scratch) w .maps .pairs) bytes) ≡ 0
 built-storable w e scratch bytes done pairs wide tall room =
     let s = w .session in

@@ -25,8 +25,8 @@ ghost use Rattle.storage.specs.Stored.{
 // The longest side of a sheet whose map can be stored.
 pub const MAX_STORED_SIDE: u16 = 128;
 
-// Stores a map of w × h pixels. Refusals: 11, a side; 12, the length of a slice; 45, a side above 128 or a pixel that has no vector of small components
-// and is not unlabelled.
+// Stores a map of w × h pixels. Refusals: 11, a side; 12, the length of a slice; 45, a side above 128, or a pixel that is not unlabelled and has a component
+// outside ±127.
 pub fn store(w: u16, h: u16, map: &[i16], bytes: &mut [i8]) -> u32
     ensures answered { λ r. ⌜ r ≡ firstOf (storeTable w h (now (map .entry)) (now (bytes .entry))) ⌝ }
     ensures bytes_left { λ r. ⌜ now (bytes .exit) ≡ onDone r (stored (now (map .entry))) (now (bytes .entry)) ⌝ }
@@ -89,7 +89,7 @@ fn has_unstorable(map: &[i16], n: usize) -> bool
     found
 }
 
-// Whether pixel p can be stored. All is tested by squares, as the size is one of: so the loop above looks at several pixels at a time.
+// Whether pixel p can be stored. Two marks have the size 2^31. All tests are of squares: from them the compiler makes a look at several pixels at a time.
 fn is_storable(map: &[i16], p: usize) -> bool
     requires { ⌜ Inside p (now map) ⌝ }
     ensures { λ r. ⌜ r ≡ storable (now (map .entry)) p ⌝ }
@@ -98,6 +98,7 @@ fn is_storable(map: &[i16], p: usize) -> bool
     unlabelled | (is_small(raster::dx_at(map, p)) & is_small(raster::dy_at(map, p)))
 }
 
+// From −127 to 127: the square is below 128².
 fn is_small(z: i32) -> bool
     requires { ⌜ Short z ⌝ }
     ensures { λ r. ⌜ r ≡ smallComponent z ⌝ }
@@ -116,7 +117,7 @@ fn write_bytes(map: &[i16], bytes: &mut [i8])
     }
 }
 
-// The mark alone is below −128.
+// A component in a byte. Of those that are stored the mark alone is below −128.
 fn to_byte(z: i16) -> i8
     requires { ⌜ isMark z || smallComponent z ≡ true ⌝ }
     ensures { λ r. ⌜ r ≡ toByte z ⌝ }
@@ -172,6 +173,7 @@ fn write_pairs(bytes: &[i8], map: &mut [i16])
     }
 }
 
+// A byte in 16 bits.
 fn from_byte(z: i8) -> i16
     ensures { λ r. ⌜ r ≡ fromByte z ⌝ }
 {
