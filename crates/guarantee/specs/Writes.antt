@@ -17,7 +17,7 @@ use Rattle.guarantee.specs.Claims.{Claim, Agree, KeptFree, ApproachRecor
 -- an entry of a list: a call, or a write by something else that leaves both maps with any length and any contents. A read-back into the session's map is one.
 pub data Entry : Type 0 where
   call : Call → Entry
-  overwrite : (left : Maps) → Entry
+  overwrite : Maps → Entry
 
 -- where a list is between two entries: the board, what is handed on, and whether the maps are as the session's calls left them
 pub record Stage : Type 0 where
@@ -28,7 +28,7 @@ pub record Stage : Type 0 where
 abbrev pub stage : Board → World → (own : Bool) → Stage
 stage b w own = record { board = b; world = w; own = own }
 
--- one of the builds
+-- a build, whatever its engine
 abbrev pub isBuild : Call → Bool
 isBuild (opening w h o) = false
 isBuild (paint x y c r) = false

@@ -15,6 +15,7 @@ pub const MARK: i16 = -32768;
 // The longest side of a sheet.
 pub const MAX_SIDE: u16 = 2048;
 
+// Whether a sheet may have this side.
 pub fn is_side(n: u16) -> bool
     ensures { λ r. ⌜ r ≡ side n ⌝ }
 {

@@ -24,7 +24,7 @@ use Rattle.storage.specs.Stored.{Byte, byteMark, isByteMark, smallCompon
 
 -- ---- stored
 
--- −127 to 127 are not the mark, and as bytes not −128
+-- −127 to 127 are not the mark
 pub small-unmarked : (z : ℤ) → smallComponent z ≡ true → isMark z ≡ false
 small-unmarked (pos n) s = refl
 small-unmarked (negsuc n) s = ne-eqb n 32767 (omega (arith, leb-true (suc n) 127 s))

@@ -197,6 +197,11 @@ const fn probing(name: &'static str, lent: [usize; 2], ready: fn(&mut Slices)) -
     }
 }
 
+/// A map of the longest sides that is stored or read back.
+const fn storing(name: &'static str, ready: fn(&mut Slices), library: Call, plain: Call) -> What {
+    What { name, sides: &[STORED_SIDE], lent: [6, 0], pixels: |board| MAPS * whole(board), ready, library, plain, fused: None }
+}
+
 const WHATS: [What; 15] = [
     build::<1>("exact", [5, 8], Some(fused_build::<1>)),
     build::<2>("8SED", [5, 0], Some(fused_build::<2>)),
@@ -257,26 +262,18 @@ const WHATS: [What; 15] = [
     // a point takes 8 bytes; there are as many as columns, or a hundred, which are not counted
     probing("probe", [1, 16], in_every_row),
     probing("probe row", [1, 8], in_one_row),
-    What {
-        name: "store",
-        sides: &[STORED_SIDE],
-        lent: [6, 0],
-        pixels: |board| MAPS * whole(board),
-        ready: to_store,
-        library: |on| again(on.session, on.map, &mut on.bytes, storage::store),
-        plain: |on| again(on.session, on.map, &mut on.bytes, plain_storage::store),
-        fused: None,
-    },
-    What {
-        name: "read back",
-        sides: &[STORED_SIDE],
-        lent: [6, 0],
-        pixels: |board| MAPS * whole(board),
-        ready: to_read_back,
-        library: |on| again(on.session, &on.bytes, on.map, storage::read_back),
-        plain: |on| again(on.session, &on.bytes, on.map, plain_storage::read_back),
-        fused: None,
-    },
+    storing(
+        "store",
+        to_store,
+        |on| again(on.session, on.map, &mut on.bytes, storage::store),
+        |on| again(on.session, on.map, &mut on.bytes, plain_storage::store),
+    ),
+    storing(
+        "read back",
+        to_read_back,
+        |on| again(on.session, &on.bytes, on.map, storage::read_back),
+        |on| again(on.session, &on.bytes, on.map, plain_storage::read_back),
+    ),
 ];
 
 /// The memory of one contender, enough for boards up to some side.

@@ -292,6 +292,19 @@ mod tests {
         board
     }
 
+    /// The same after something else has written the maps, and after one more build.
+    fn lapsed() -> Board {
+        let mut board = built();
+        board.written();
+        board
+    }
+
+    fn built_again() -> Board {
+        let mut board = lapsed();
+        feed(&mut board, BUILD, 0, BUILT);
+        board
+    }
+
     /// The session with the cutter down on the copper, which no gate lets it. The size recorded there is on no map.
     fn down() -> Fields {
         Fields { lowered: true, q: 1, met: true, closest: 9, ..BUILT }
@@ -321,11 +334,8 @@ mod tests {
     #[test]
     fn lapse() {
         for answer in [0, 34] {
-            let mut board = built();
-            board.written();
-            wrong(&mut board, answer);
-            let mut board = built();
-            board.written();
+            wrong(&mut lapsed(), answer);
+            let mut board = lapsed();
             feed(&mut board, Call::Open { w: 3, h: 1 }, 0, OPEN);
             assert!(!board.own);
         }
@@ -335,8 +345,7 @@ mod tests {
     #[test]
     fn lapse_over_refused_build() {
         for answer in [0, 34] {
-            let mut board = built();
-            board.written();
+            let mut board = lapsed();
             feed(&mut board, Call::Build { engine: 7 }, 14, BUILT);
             wrong(&mut board, answer);
         }
@@ -345,27 +354,19 @@ mod tests {
     #[test]
     #[should_panic(expected = "copper within 1 of (0, 0)")]
     fn claims_after_build() {
-        let mut board = built();
-        board.written();
-        feed(&mut board, BUILD, 0, BUILT);
-        wrong(&mut board, 0);
+        wrong(&mut built_again(), 0);
     }
 
     #[test]
     #[should_panic(expected = "34 with all copper far off")]
     fn fairness_after_build() {
-        let mut board = built();
-        board.written();
-        feed(&mut board, BUILD, 0, BUILT);
-        wrong(&mut board, 34);
+        wrong(&mut built_again(), 34);
     }
 
     /// Agreement goes on after a write.
     #[test]
     #[should_panic(expected = "the cutter")]
     fn agreement_after_write() {
-        let mut board = built();
-        board.written();
-        feed(&mut board, ON_COPPER, 34, down());
+        feed(&mut lapsed(), ON_COPPER, 34, down());
     }
 }
