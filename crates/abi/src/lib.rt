@@ -1,4 +1,7 @@
 // The calls of the session, of `storage` and of `join`, exported for Rust: the comparison, the benchmark and the pictures of jobs. They ask nothing of their caller.
+
+#![tactic(auto)]
+
 ghost use Rattle.std.specs.Prelude.{◌≡◌, cond, ◌&&◌, eqb, take, drop};
 ghost use Rattle.raster.specs.Map.{unmapped};
 ghost use Rattle.raster.specs.Refusal.{first_of, on_done};
@@ -222,7 +225,7 @@ pub extern "C" fn abi_session_probe(
 
 // Where a part of a slice stands.
 #[repr(C)]
-#[derive(Drop)]
+#[derive(Clone, Copy)]
 pub struct Span {
     pub from: usize,
     pub len: usize,

@@ -4,6 +4,9 @@
 // and the true one is 169; sheets with the skeleton of their exact maps and the sheet rebuilt from it, which is the bare pixels again: M7, and a board of 24
 // × 9 with two pads, a track between them and a via; document 02's 3 × 3 board shrunk by 1, of which its middle is left, and by 0, which leaves it whole; and
 // the README's example.
+
+#![tactic(auto)]
+
 ghost use Rattle.std.specs.Prelude.{◌≡◌, ◌+◌, ◌*◌, ◌≤◌, ◌<◌, length};
 ghost use Rattle.raster.specs.Vector.{Short};
 ghost use Rattle.exact.specs.Nearest.{scratch_need};

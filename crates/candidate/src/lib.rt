@@ -5,6 +5,9 @@
 // twice. All candidates that a pixel is offered in a pass are looked at together, with one read and one write of the pixel.
 //
 // No number is tested for its range: the vector of a neighbour ends on the sheet, so its components are below 2,048 and one step more fits 16 bits.
+
+#![tactic(auto)]
+
 ghost use Rattle.std.specs.Prelude.{◌≡◌, true, false, cond, ◌+◌, ◌≤◌, ◌<◌, pos, negsuc, nat_abs, ◌+ℤ◌};
 ghost use Rattle.raster.specs.Limits.{max_side};
 ghost use Rattle.raster.specs.Vector.{Wide, UnitStep};
@@ -24,7 +27,7 @@ const NO_KEY: u64 = 9223372037928517632;
 const KEY_LIMIT: u64 = 9223372036854775808;
 
 // A vector with its key, or none with the key that says so.
-#[derive(Drop)]
+#[derive(Clone, Copy)]
 pub struct KeyedVector {
     pub dx: i32,
     pub dy: i32,

@@ -4,6 +4,9 @@
 // two goes up: of the three in the row below, then of its right neighbour. What a row takes from the row before is worked out for all its pixels first. No
 // pixel waits for another there, so the compiler works on eight at once. Only the sweep along the row goes pixel by pixel, and only where it changes
 // something: a test of all pixels, again eight at once, tells that first.
+
+#![tactic(auto)]
+
 ghost use Rattle.std.specs.Prelude.{◌≡◌, ◌+◌, ◌*◌, ◌-◌, ◌≤◌, ◌<◌, min, length, get_or};
 ghost use Rattle.raster.specs.Limits.{max_side};
 ghost use Rattle.raster.specs.Pixels.{Mask};

@@ -2,6 +2,9 @@
 //
 // The pass down leaves the ways upwards, the pass up turns them into the shorter ones. A pass holds the ways of the row before in a local row of 2,048 numbers.
 // A way is a number a pixel, and numbers that lie side by side let the compiler work on eight at once.
+
+#![tactic(auto)]
+
 ghost use Rattle.std.specs.Prelude.{◌≡◌, not, ℕ, ◌+◌, ◌*◌, ◌≤◌, ◌<◌, eqb, pos, negsuc, length, get_or};
 ghost use Rattle.raster.specs.Sheet.{copper_of};
 ghost use Rattle.columns.specs.Column.{farther, up, shorter, way_of, is_zero, EveryPixel};

@@ -1,5 +1,8 @@
 // The cutter (document 01, "Calls", place and run; document 02, C-11 and C-12): whether it may stand at a pixel of a map of either kind, where a run takes
 // it, and how near it comes to copper.
+
+#![tactic(auto)]
+
 ghost use Rattle.std.specs.Prelude.{◌≡◌, true, false, not, cond, ◌-◌, ◌*◌, ◌<◌, ◌≤◌, ltb, length};
 ghost use Rattle.raster.specs.Map.{Inside, size_at, unlabelled_at};
 ghost use Rattle.chamfer.specs.Engines.{no_value_at, square_at};
@@ -9,7 +12,7 @@ ghost use Rattle.cutter.specs.Gates.{known_engine, gate_of, IsSight, On, may_sta
 ghost use Rattle.cutter.specs.Closest.{nearer, closest_at, closest_along};
 
 // A cutter of q at the pixel (x, y), over a map of width × height pixels that an engine built.
-#[derive(Drop)]
+#[derive(Clone, Copy)]
 pub struct Cutter {
     pub width: u16,
     pub height: u16,
@@ -21,21 +24,21 @@ pub struct Cutter {
 
 // The closest approach: the least size of the labelled pixels that a cutter has met. Where it has met none the size is 0.
 #[repr(C)]
-#[derive(Drop)]
+#[derive(Clone, Copy)]
 pub struct Closest {
     pub met: bool,
     pub size: u32,
 }
 
 // What a map says of a pixel: whether it is unlabelled, and the size.
-#[derive(Drop)]
+#[derive(Clone, Copy)]
 struct Seen {
     unlabelled: bool,
     size: u32,
 }
 
 // What a look at pixels says: one of them does not pass the cutter; the closest approach with them.
-#[derive(Drop)]
+#[derive(Clone, Copy)]
 pub struct Look {
     pub blocked: bool,
     pub closest: Closest,
@@ -93,7 +96,7 @@ fn factor_of(engine: u16) -> usize
 
 // What a look at pixels has to know of an engine and of q, worked out once for all pixels of a run: the kind of map, and its gate, which a labelled pixel of
 // size a passes if `limit` is below `times` × a.
-#[derive(Drop)]
+#[derive(Clone, Copy)]
 struct Sight {
     values: bool,
     times: usize,

@@ -7,6 +7,9 @@
 // The sites that are best somewhere are corners of the lower convex hull of the points (k, k^2 + cost[k]). `hull` goes through
 // the sites from the left and stacks the corners so far, passing over places without a site 32 at a time; `starts` then
 // divides once for each that is left.
+
+#![tactic(auto)]
+
 ghost use Rattle.std.specs.Prelude.{◌≡◌, true, ◌+◌, ◌-◌, ◌*◌, ◌/◌, ◌<◌, ◌≤◌, length, get_or};
 ghost use Rattle.envelope.specs.Best.{Site, Line};
 ghost use Rattle.envelope.specs.Stack.{Envelope};

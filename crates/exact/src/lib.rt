@@ -4,6 +4,9 @@
 // by itself: a column costs the square of its way, and the lower envelope of the columns' parabolas gives the nearest column of each pixel. Long runs of
 // copper split a row into parts with an envelope each. The rows are worked out from the last to the first, since the vectors of row y stand behind the
 // ways of the rows above it. The ways of the row at hand stand in scratch; the other working rows are local ones of 2,048 numbers.
+
+#![tactic(auto)]
+
 ghost use Rattle.std.specs.Prelude.{◌≡◌, ◌&&◌, ◌++◌, ℕ, ◌+◌, ◌-◌, ◌*◌, ◌≤◌, ◌<◌, pos, ◌-ℤ◌, length, get_or, drop};
 ghost use Rattle.raster.specs.Pixels.{tabulate};
 ghost use Rattle.raster.specs.Sheet.{copper_of};

@@ -3,6 +3,9 @@
 //
 // While a job runs, the open sheet has the first n bytes of the sheet buffer, the first 2 × n numbers of the map buffer and the first n of the values buffer;
 // the scratch buffer is lent whole.
+
+#![tactic(auto)]
+
 ghost use Rattle.std.specs.Prelude.{◌≡◌, true, List, ℕ, ◌+◌, ◌*◌, ◌≤◌, ◌<◌, ℤ, length};
 ghost use Rattle.cutter.specs.Kinds.{Maps, maps};
 ghost use Rattle.records.specs.declared.Record.TheVariants.{Open, Paint, Erase, Build, Place, Run, Expand, Shrink};
@@ -15,14 +18,14 @@ use records::{Reading, Record};
 use session::{Reply, Session};
 
 // How many bytes of text were written, and 0; 12 if the text may not fit; 19 if the job does not split.
-#[derive(Drop)]
+#[derive(Clone, Copy)]
 pub struct Ran {
     pub written: usize,
     pub answer: u32,
 }
 
 // What a record leaves: its answer, the session, and how many pixels the open sheet has.
-#[derive(Drop)]
+#[derive(Clone, Copy)]
 struct Done {
     answer: u32,
     pixels: usize,

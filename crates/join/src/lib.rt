@@ -1,4 +1,7 @@
 // Two artworks on one sheet (document 02, C-21): two maps of one size are joined into a third, with no rebuild. The call takes no session.
+
+#![tactic(auto)]
+
 ghost use Rattle.std.specs.Prelude.{◌≡◌, ◌*◌, ◌<◌, ◌≤◌, length};
 ghost use Rattle.raster.specs.Map.{Inside, dx_at, dy_at, put};
 ghost use Rattle.raster.specs.Refusal.{first_of, on_done};

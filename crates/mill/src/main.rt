@@ -1,4 +1,7 @@
 // The program `mill` (document 01, "Job file"): reads a job from standard input, runs it on sheets of at most 8,192 pixels, and prints its text.
+
+#![tactic(auto)]
+
 ghost use Rattle.io.specs.Counts.{IsPrefixLen};
 
 use libc::{STDERR_FILENO, STDIN_FILENO, STDOUT_FILENO};

@@ -3,6 +3,9 @@
 // Shrink turns the sheet round, builds the exact map of its bare pixels and keeps what is farther than q. A bare pixel is within q of itself, so that no test
 // of what was copper is needed (`stays_is`). Off the sheet all is bare: the root of q says how many rows and columns along each side are within q of that
 // (`inner_is`). Expand has no such rows and columns.
+
+#![tactic(auto)]
+
 ghost use Rattle.std.specs.Prelude.{◌≡◌, ◌+◌, ◌-◌, ◌*◌, ◌≤◌, ◌<◌, length};
 ghost use Rattle.raster.specs.Limits.{max_q};
 ghost use Rattle.raster.specs.Map.{Inside, unmapped};

@@ -1,4 +1,7 @@
 // What the planner window calls: functions on numbers and byte slices, exported for Rust and C.
+
+#![tactic(auto)]
+
 ghost use Rattle.std.specs.Prelude.{◌≡◌};
 ghost use Rattle.radius.specs.Radius.{radius_answer, radius_q};
 ghost use Rattle.records.specs.Format.{split_of};

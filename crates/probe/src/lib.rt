@@ -5,6 +5,9 @@
 // looked at for all of them at once; then each goes on by itself. So the time is linear in the pixels down to the last row asked for, and from there on to
 // the next copper of each column. The shorter of both ways is priced as for the exact map, and the row is worked out as one of its rows. All working rows are
 // local, but for the ways, which stand in scratch; none grows with the number of rows.
+
+#![tactic(auto)]
+
 ghost use Rattle.std.specs.Prelude.{◌≡◌, false, cond, ◌++◌, ℕ, ◌+◌, ◌*◌, ◌≤◌, ◌<◌, leb, length, get_or, drop};
 ghost use Rattle.raster.specs.Loop.{count_below};
 ghost use Rattle.raster.specs.Map.{Inside, dx_at, dy_at};
@@ -118,7 +121,7 @@ fn outdated_columns(below: &[u16], w: usize, y: u16) -> u16
 }
 
 // How far down the rows were looked at, and how many columns still look for another copper.
-#[derive(Drop)]
+#[derive(Clone, Copy)]
 struct LookedRows {
     row: usize,
     left: u16,

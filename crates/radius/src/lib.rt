@@ -1,10 +1,13 @@
 // Radius and pitch to q (document 01, Calls).
+
+#![tactic(auto)]
+
 ghost use Rattle.std.specs.Prelude.{◌≡◌};
 ghost use Rattle.radius.specs.Radius.{measurable, radius_answer, radius_q};
 
 // The answer number, and q beside 0.
 #[repr(C)]
-#[derive(Drop)]
+#[derive(Clone, Copy)]
 pub struct Measured {
     pub answer: u32,
     pub q: u32,

@@ -1,5 +1,8 @@
 // The leaves: what a vector says, reading and writing it at a pixel of a map, and filling sheets and maps. A component is 16 bits wide in the
 // map and 32 bits wide in the hand, where no sum of it and a step overflows.
+
+#![tactic(auto)]
+
 ghost use Rattle.std.specs.Prelude.{◌≡◌, ◌+◌, ◌*◌, ◌≤◌, eqb, nat_abs, ◌+ℤ◌, length, replicate};
 ghost use Rattle.raster.specs.Limits.{side};
 ghost use Rattle.raster.specs.Vector.{Short, Wide, UnitStep, size, unlabelled};

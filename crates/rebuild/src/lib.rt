@@ -3,6 +3,9 @@
 // One pass over the rows from the top and one from the bottom. A pass keeps for each column the row up to which the rows so far cover it. The best site
 // of a row's envelope, in which a marked pixel costs 2^31 less its size, covers a pixel exactly if its price there and the square of the rows between
 // stay below 2^31; and a column's number only grows, so that a pass takes time linear in the pixels.
+
+#![tactic(auto)]
+
 ghost use Rattle.std.specs.Prelude.{◌≡◌, cond, ℕ, ◌+◌, ◌-◌, ◌*◌, ◌≤◌, ◌<◌, ltb, length, get_or};
 ghost use Rattle.raster.specs.Distance.{gap};
 ghost use Rattle.raster.specs.Map.{Inside, size_at};

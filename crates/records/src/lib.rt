@@ -1,19 +1,22 @@
 // The job file (document 01): splitting its bytes into records, reading a record's fields, and the text of its answers. Splitting asks nothing of its caller:
 // any bytes, any lengths.
+
+#![tactic(auto)]
+
 ghost use Rattle.std.specs.Prelude.{◌≡◌, [], ◌∷◌, ◌+◌, ◌≤◌, ◌<◌, length, drop};
 ghost use Rattle.records.specs.Format.{word, long, length_of, length_here, Here, record_here, read_here, split_of};
 ghost use Rattle.records.specs.Text.{decimal_digits, answer_line, Put};
 
 // The number of records and 0, or 0 and 19.
 #[repr(C)]
-#[derive(Drop)]
+#[derive(Clone, Copy)]
 pub struct Counted {
     pub records: u32,
     pub answer: u32,
 }
 
 // A record, with its fields in their order.
-#[derive(Drop)]
+#[derive(Clone, Copy)]
 pub enum Record {
     Open(u16, u16),
     Paint(u16, u16, u16, u16),
@@ -27,7 +30,7 @@ pub enum Record {
 }
 
 // What stands at a place of the bytes: a whole record with its length, or none.
-#[derive(Drop)]
+#[derive(Clone, Copy)]
 pub enum Reading {
     Whole(Record, usize),
     Broken,

@@ -5,6 +5,9 @@
 // look at its first pixel tells whether there is anything to take from it.
 //
 // Each function asks that the labelled vectors of the map end on the sheet. Candidates keep that, so no number grows too large, and none is tested.
+
+#![tactic(auto)]
+
 ghost use Rattle.std.specs.Prelude.{◌≡◌, ◌≢◌, true, false, ◌+◌, ◌*◌, ◌-◌, ◌≤◌, ◌<◌, pos, ◌+ℤ◌, length};
 ghost use Rattle.raster.specs.Limits.{max_side};
 ghost use Rattle.raster.specs.Vector.{Short, UnitStep};

@@ -1,5 +1,8 @@
 // The session (document 01, and document 02, C-11, C-12 and C-19): every call takes it by value and hands it back with an answer number, 0 if it was done. No
 // call asks anything of its caller: bad input gets its number, and a refusal changes nothing.
+
+#![tactic(auto)]
+
 ghost use Rattle.std.specs.Prelude.{◌≡◌, cond, ◌&&◌, ◌<◌, ◌≤◌, eqb};
 ghost use Rattle.raster.specs.Map.{unmapped};
 ghost use Rattle.raster.specs.Refusal.{first_of, on_done};
@@ -41,7 +44,7 @@ use cutter::Closest;
 
 // What a session records.
 #[repr(C)]
-#[derive(Drop)]
+#[derive(Clone, Copy)]
 pub struct Session {
     pub opened: bool,
     pub width: u16,
@@ -57,7 +60,7 @@ pub struct Session {
 
 // What a call hands back.
 #[repr(C)]
-#[derive(Drop)]
+#[derive(Clone, Copy)]
 pub struct Reply {
     pub answer: u32,
     pub session: Session,
@@ -65,7 +68,7 @@ pub struct Reply {
 
 // What probe hands back: the number of different rows among its points, too.
 #[repr(C)]
-#[derive(Drop)]
+#[derive(Clone, Copy)]
 pub struct Probed {
     pub answer: u32,
     pub rows: u32,

@@ -7,6 +7,9 @@
 // A row is measured first and looked up after, since a processor measures several pixels at a time and looks up one. The sizes stand last: were they first,
 // each would be read soon after a place 8 KiB on had been written, and a processor that compares the low bits of addresses first would wait. The tables are
 // lent from above, since a constant that is indexed is laid out anew at each look.
+
+#![tactic(auto)]
+
 ghost use Rattle.std.specs.Prelude.{◌≡◌, true, false, cond, ◌||◌, ◌+◌, ◌*◌, ◌≤◌, ◌<◌, eqb, length};
 ghost use Rattle.raster.specs.Rows.{RowWritten};
 ghost use Rattle.skeleton.specs.Skeleton.{skeleton_of};

@@ -1,5 +1,8 @@
 // Stored maps (document 02, C-24): the map of a sheet with sides of at most 128 in a signed byte a component, and back. Neither call takes a session. A
 // map is looked at in full before anything is written, so that a refusal leaves the target as it was.
+
+#![tactic(auto)]
+
 ghost use Rattle.std.specs.Prelude.{◌≡◌, true, not, ◌||◌, ◌+◌, ◌*◌, ◌≤◌, length};
 ghost use Rattle.raster.specs.Loop.{any_below};
 ghost use Rattle.raster.specs.Map.{Inside};

@@ -1,5 +1,4 @@
 -- `raster::fill_span` meets its contract: the part that `fill` was lent comes back as n times v.
--- Assumes nothing.
 use mathlib.Core.Path.{◌≡◌}
 use mathlib.Core.List.{List, ◌++◌}
 use Prim.Native.Nat.{ℕ, ◌+◌, ◌-◌, ◌≤◌}
@@ -8,8 +7,7 @@ use lib.ListN.{length, take, drop, replicate, length-drop}
 use lib.Seq.{drop-drop, length-take-le}
 use borrow.Author.Rules.{rules}
 use Rattle.raster.specs.Sheet.{spanned}
-use Rattle.raster.proofs.fill_span.Statement.{statement}
-use Rattle.raster.proofs.fill_span.Tie as tie
+use Rattle.raster.proofs.fill_span.Goals as goal
 
 back : (p n v : ℕ) (s part : List ℕ) → p + n ≤ length s → part ≡ replicate (length (take (p + n - p) (drop p s))) v
     → take p s ++ (part ++ drop (p + n - p) (drop p s)) ≡ spanned p n v s
@@ -20,19 +18,7 @@ back p n v s part room e =
     let m = simp (k, l) at e in
     simp (k, m, drop-drop)
 
-returns : tie.Need-returns
+pub returns : goal.returns
 returns c =
-    let a = c.before.before.before.before.before.args in
-    back a.start a.n a.v a.sheet.now _ (search rules) c.before.before.fill.ensures
-
-pub fill-span-spec : {M : Type 1} → statement M
-fill-span-spec =
-    tie.close
-    (tie.spec
-    (λ c. search rules)
-    (λ c. search rules)
-    (λ c. search rules)
-    (λ c. search rules)
-    (λ c κs. search rules)
-    (λ c. search rules)
-    returns)
+    let a = c.args in
+    back a.start a.n a.v a.sheet.now _ (search rules) c.fill.ensures
