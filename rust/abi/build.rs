@@ -1,11 +1,11 @@
-//! Links the archive that `rt staticlib abi` writes.
+//! Links the archive that `rt lib` writes in crates/abi.
 
 use std::path::Path;
 
 fn main() {
-    let folder = Path::new(env!("CARGO_MANIFEST_DIR")).join("../../target/staticlib");
+    let folder = Path::new(env!("CARGO_MANIFEST_DIR")).join("../../crates/abi/out");
     let archive = folder.join("libabi.a");
-    assert!(archive.exists(), "{} is missing: run `rt staticlib abi` first", archive.display());
+    assert!(archive.exists(), "{} is missing: run `rt lib` in crates/abi first", archive.display());
     println!("cargo:rerun-if-changed={}", archive.display());
     println!("cargo:rustc-link-search=native={}", folder.display());
     println!("cargo:rustc-link-lib=static=abi");

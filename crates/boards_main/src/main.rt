@@ -11,181 +11,180 @@ ghost use Rattle.std.specs.Prelude.{◌≡◌, ◌+◌, ◌*◌, ◌≤◌, ◌<
 ghost use Rattle.raster.specs.Vector.{Short};
 ghost use Rattle.exact.specs.Nearest.{scratch_need};
 
-use libc::STDOUT_FILENO;
 use session::Session;
+use std::io;
 
 // ---- maps and sheets as text
 
-// Text on standard output.
-fn text(s: &[u8]) {
-    io::write_all(STDOUT_FILENO, s);
-}
-
 // A component, with its sign.
-fn component(z: i32)
+fn component(rt: &impl Print, z: i32) -> io::Result<()>
     requires { Short z }
 {
     if z < 0 {
-        text(b"-");
+        print!(rt; "-")?;
     }
-    io::print_decimal(STDOUT_FILENO, raster::magnitude(z) as u64);
+    print!(rt; "{}", raster::magnitude(z))
 }
 
 // The vector of pixel p, or a dash where it is unlabelled.
-fn vector(map: &[i16], p: usize)
+fn vector(rt: &impl Print, map: &[i16], p: usize) -> io::Result<()>
     requires { 2 * p + 1 < length map.now }
 {
     let dx = raster::dx_at(map, p);
     let dy = raster::dy_at(map, p);
     if raster::is_unlabelled(dx, dy) {
-        text(b"-");
-        return;
+        print!(rt; "-")?;
+        return Ok(());
     }
-    text(b"(");
-    component(dx);
-    text(b",");
-    component(dy);
-    text(b")");
+    print!(rt; "(")?;
+    component(rt, dx)?;
+    print!(rt; ",")?;
+    component(rt, dy)?;
+    print!(rt; ")")
 }
 
-fn space() {
-    text(b" ");
+fn space(rt: &impl Print) -> io::Result<()> {
+    print!(rt; " ")
 }
 
-fn line_end() {
-    text(b"\n");
+fn line_end(rt: &impl Print) -> io::Result<()> {
+    println!(rt)
 }
 
 // Row y of a map of width w.
-fn row(map: &[i16], w: usize, y: usize)
+fn row(rt: &impl Print, map: &[i16], w: usize, y: usize) -> io::Result<()>
     requires { 2 * (y * w + w) ≤ length map.now }
 {
     for x in 0..w {
-        space();
-        vector(map, y * w + x);
+        space(rt)?;
+        vector(rt, map, y * w + x)?;
     }
-    line_end();
+    line_end(rt)
 }
 
 // A map of w × h pixels, a row to a line.
-fn show_map(map: &[i16], w: usize, h: usize)
+fn show_map(rt: &impl Print, map: &[i16], w: usize, h: usize) -> io::Result<()>
     requires { 2 * (h * w) ≤ length map.now }
 {
     for y in 0..h {
-        row(map, w, y);
+        row(rt, map, w, y)?;
     }
+    Ok(())
 }
 
 // The pixel at p of a sheet: a dot for 0, a hash for any other byte.
-fn pixel(sheet: &[u8], p: usize)
+fn pixel(rt: &impl Print, sheet: &[u8], p: usize) -> io::Result<()>
     requires { p < length sheet.now }
 {
     if sheet[p] == 0 {
-        text(b".");
+        print!(rt; ".")?;
     } else {
-        text(b"#");
+        print!(rt; "#")?;
     }
+    Ok(())
 }
 
 // Row y of a sheet of width w.
-fn sheet_row(sheet: &[u8], w: usize, y: usize)
+fn sheet_row(rt: &impl Print, sheet: &[u8], w: usize, y: usize) -> io::Result<()>
     requires { y * w + w ≤ length sheet.now }
 {
     for x in 0..w {
-        pixel(sheet, y * w + x);
+        pixel(rt, sheet, y * w + x)?;
     }
-    line_end();
+    line_end(rt)
 }
 
 // A sheet of w × h pixels as a picture, a row to a line.
-fn show_sheet(sheet: &[u8], w: usize, h: usize)
+fn show_sheet(rt: &impl Print, sheet: &[u8], w: usize, h: usize) -> io::Result<()>
     requires { h * w ≤ length sheet.now }
 {
     for y in 0..h {
-        sheet_row(sheet, w, y);
+        sheet_row(rt, sheet, w, y)?;
     }
+    Ok(())
 }
 
 // ---- the scans
 
 // One sheet, by one scan.
-fn show_scan(sheet: &[u8], map: &mut [i16], w: usize, h: usize, corners: bool)
+fn show_scan(rt: &impl Print, sheet: &[u8], map: &mut [i16], w: usize, h: usize, corners: bool) -> io::Result<()>
     requires w_nonzero { (0 < w) × ((w ≤ 2048) × (h ≤ 2048)) }
     requires sheet_len { (length sheet.now ≡ h * w) × (length map.old ≡ 2 * (h * w)) }
 {
     if corners {
-        text(b"8SED\n");
+        println!(rt; "8SED")?;
     } else {
-        text(b"4SED\n");
+        println!(rt; "4SED")?;
     }
     scan::scan(sheet, map, w, h, corners);
-    show_map(map, w, h);
+    show_map(rt, map, w, h)
 }
 
-fn scanned_board() {
+fn scanned_board(rt: &impl Print) -> io::Result<()> {
     let sheet = [0, 0, 0, 1, 0, 0, 0, 0, 0, 0, 1, 0, 1, 0, 0, 0];
     let mut map = [0i16; 32];
-    show_scan(&sheet, &mut map, 4, 4, false);
-    show_scan(&sheet, &mut map, 4, 4, true);
+    show_scan(rt, &sheet, &mut map, 4, 4, false)?;
+    show_scan(rt, &sheet, &mut map, 4, 4, true)
 }
 
-fn scanned_corner() {
+fn scanned_corner(rt: &impl Print) -> io::Result<()> {
     let sheet = [0, 1, 1, 0];
     let mut map = [0i16; 8];
-    show_scan(&sheet, &mut map, 2, 2, false);
-    show_scan(&sheet, &mut map, 2, 2, true);
+    show_scan(rt, &sheet, &mut map, 2, 2, false)?;
+    show_scan(rt, &sheet, &mut map, 2, 2, true)
 }
 
-fn scanned_lines() {
+fn scanned_lines(rt: &impl Print) -> io::Result<()> {
     let sheet = [1, 0, 0];
     let mut map = [0i16; 6];
-    show_scan(&sheet, &mut map, 3, 1, false);
-    show_scan(&sheet, &mut map, 3, 1, true);
-    show_scan(&sheet, &mut map, 1, 3, false);
-    show_scan(&sheet, &mut map, 1, 3, true);
+    show_scan(rt, &sheet, &mut map, 3, 1, false)?;
+    show_scan(rt, &sheet, &mut map, 3, 1, true)?;
+    show_scan(rt, &sheet, &mut map, 1, 3, false)?;
+    show_scan(rt, &sheet, &mut map, 1, 3, true)
 }
 
-fn scanned_bare() {
+fn scanned_bare(rt: &impl Print) -> io::Result<()> {
     let sheet = [0, 0, 0];
     let mut map = [0i16; 6];
-    show_scan(&sheet, &mut map, 3, 1, true);
+    show_scan(rt, &sheet, &mut map, 3, 1, true)
 }
 
 // ---- maps of values
 
 // The value of pixel p, or a dash where it is unlabelled.
-fn value(values: &[u16], p: usize)
+fn value(rt: &impl Print, values: &[u16], p: usize) -> io::Result<()>
     requires { p < length values.now }
 {
     if chamfer::no_value_at(values, p) {
-        text(b"-");
-        return;
+        print!(rt; "-")?;
+        return Ok(());
     }
-    io::print_decimal(STDOUT_FILENO, values[p] as u64);
+    print!(rt; "{}", values[p])
 }
 
 // Row y of a map of width w.
-fn values_row(values: &[u16], w: usize, y: usize)
+fn values_row(rt: &impl Print, values: &[u16], w: usize, y: usize) -> io::Result<()>
     requires { y * w + w ≤ length values.now }
 {
     for x in 0..w {
-        space();
-        value(values, y * w + x);
+        space(rt)?;
+        value(rt, values, y * w + x)?;
     }
-    line_end();
+    line_end(rt)
 }
 
 // A map of w × h pixels, a row to a line.
-fn show_values(values: &[u16], w: usize, h: usize)
+fn show_values(rt: &impl Print, values: &[u16], w: usize, h: usize) -> io::Result<()>
     requires { h * w ≤ length values.now }
 {
     for y in 0..h {
-        values_row(values, w, y);
+        values_row(rt, values, w, y)?;
     }
+    Ok(())
 }
 
 // Document 01's 4 × 4 board by engine 4 city block, 5 chessboard or 6 chamfer.
-fn draft_board(engine: u16)
+fn draft_board(rt: &impl Print, engine: u16) -> io::Result<()>
     requires { (4 ≤ engine) × (engine ≤ 6) }
 {
     let sheet = [0, 0, 0, 1, 0, 0, 0, 0, 0, 0, 1, 0, 1, 0, 0, 0];
@@ -193,66 +192,64 @@ fn draft_board(engine: u16)
     let side = chamfer::side_weight(engine);
     let corner = chamfer::corner_weight(engine);
     chamfer::chamfer(&sheet, &mut values, 4, 4, side, corner);
-    show_values(&values, 4, 4);
-    text(b"\n");
+    show_values(rt, &values, 4, 4)?;
+    println!(rt)
 }
 
 // ---- the exact map
 
 // One sheet.
-fn show_exact(sheet: &[u8], map: &mut [i16], scratch: &mut [i16], w: usize, h: usize)
+fn show_exact(rt: &impl Print, sheet: &[u8], map: &mut [i16], scratch: &mut [i16], w: usize, h: usize) -> io::Result<()>
     requires w_bound { (w ≤ 2048) × (h ≤ 2048) }
     requires sheet_len { (length sheet.now ≡ h * w) × ((length map.old ≡ 2 * (h * w)) × (scratch_need w ≤ length scratch.old)) }
 {
     exact::exact(sheet, map, scratch, w, h);
-    show_map(map, w, h);
-    text(b"\n");
+    show_map(rt, map, w, h)?;
+    println!(rt)
 }
 
-fn exact_board() {
+fn exact_board(rt: &impl Print) -> io::Result<()> {
     let sheet = [0, 0, 0, 1, 0, 0, 0, 0, 0, 0, 1, 0, 1, 0, 0, 0];
     let mut map = [0i16; 32];
     let mut scratch = [0i16; 16];
-    show_exact(&sheet, &mut map, &mut scratch, 4, 4);
+    show_exact(rt, &sheet, &mut map, &mut scratch, 4, 4)
 }
 
-fn exact_row(first: u8, last: u8) {
+fn exact_row(rt: &impl Print, first: u8, last: u8) -> io::Result<()> {
     let sheet = [first, 0, last];
     let mut map = [0i16; 6];
     let mut scratch = [0i16; 12];
-    show_exact(&sheet, &mut map, &mut scratch, 3, 1);
+    show_exact(rt, &sheet, &mut map, &mut scratch, 3, 1)
 }
 
-fn arrow_head() {
+fn arrow_head(rt: &impl Print) -> io::Result<()> {
     let mut sheet = [0u8; 112];
     sheet[27] = 1;
     sheet[82] = 1;
     sheet[109] = 1;
     let mut map = [0i16; 224];
     let mut scratch = [0i16; 56];
-    show_scan(&sheet, &mut map, 14, 8, true);
-    show_exact(&sheet, &mut map, &mut scratch, 14, 8);
+    show_scan(rt, &sheet, &mut map, 14, 8, true)?;
+    show_exact(rt, &sheet, &mut map, &mut scratch, 14, 8)
 }
 
 // ---- skeleton and rebuild
 
-fn picture(sheet: &[u8], w: usize, h: usize)
+fn picture(rt: &impl Print, sheet: &[u8], w: usize, h: usize) -> io::Result<()>
     requires { h * w ≤ length sheet.now }
 {
-    show_sheet(sheet, w, h);
-    text(b"\n");
+    show_sheet(rt, sheet, w, h)?;
+    println!(rt)
 }
 
 // The sheet, its skeleton and what is rebuilt from that.
-fn show_skeleton(
-    sheet: &[u8],
+fn show_skeleton(rt: &impl Print, sheet: &[u8],
     map: &mut [i16],
     scratch: &mut [i16],
     marks: &mut [u8],
     out: &mut [u8],
     w: usize,
-    h: usize,
-)
+    h: usize,) -> io::Result<()>
     requires w_bound { (w ≤ 2048) × (h ≤ 2048) }
     requires sheet_len { (length sheet.now ≡ h * w) × ((length map.old ≡ 2 * (h * w)) × (scratch_need w ≤ length scratch.old)) }
     requires marks_len { (length marks.old ≡ h * w) × (length out.old ≡ h * w) }
@@ -260,21 +257,21 @@ fn show_skeleton(
     exact::exact(sheet, map, scratch, w, h);
     skeleton::skeleton(map, marks, w, h);
     rebuild::rebuild(map, marks, out, w, h);
-    picture(sheet, w, h);
-    picture(marks, w, h);
-    picture(out, w, h);
+    picture(rt, sheet, w, h)?;
+    picture(rt, marks, w, h)?;
+    picture(rt, out, w, h)
 }
 
-fn five_in_a_row() {
+fn five_in_a_row(rt: &impl Print) -> io::Result<()> {
     let sheet = [1, 0, 0, 0, 1];
     let mut map = [0i16; 10];
     let mut scratch = [0i16; 20];
     let mut marks = [0u8; 5];
     let mut out = [0u8; 5];
-    show_skeleton(&sheet, &mut map, &mut scratch, &mut marks, &mut out, 5, 1);
+    show_skeleton(rt, &sheet, &mut map, &mut scratch, &mut marks, &mut out, 5, 1)
 }
 
-fn drawn() {
+fn drawn(rt: &impl Print) -> io::Result<()> {
     let mut sheet = [0u8; 216];
     raster::fill_rectangle(&mut sheet, 24, 9, 1, 1, 3, 3, 1);
     raster::fill_rectangle(&mut sheet, 24, 9, 4, 2, 14, 1, 1);
@@ -284,32 +281,33 @@ fn drawn() {
     let mut scratch = [0i16; 96];
     let mut marks = [0u8; 216];
     let mut out = [0u8; 216];
-    show_skeleton(&sheet, &mut map, &mut scratch, &mut marks, &mut out, 24, 9);
+    show_skeleton(rt, &sheet, &mut map, &mut scratch, &mut marks, &mut out, 24, 9)
 }
 
 // ---- a sheet of 3 × 3, copper everywhere, shrunk by q
 
-fn shrunk_whole(q: u32)
+fn shrunk_whole(rt: &impl Print, q: u32) -> io::Result<()>
     requires { q ≤ 1 }
 {
     let mut sheet = [1u8; 9];
     let mut map = [0i16; 18];
     let mut scratch = [0i16; 12];
     morphology::shrink(&mut sheet, &mut map, &mut scratch, 3, 3, q);
-    picture(&sheet, 3, 3);
+    picture(rt, &sheet, 3, 3)
 }
 
 // ---- the session: a sheet of 4 × 4 with one copper pixel at (3, 0), its exact map, and two cutters at (0, 0), where the size is 9
 
-fn say(answer: u32) {
+fn say(rt: &impl Print, answer: u32) -> io::Result<()> {
     if answer == 0 {
-        text(b"placed\n");
+        println!(rt; "placed")?;
     } else {
-        text(b"refused\n");
+        println!(rt; "refused")?;
     }
+    Ok(())
 }
 
-fn readme() {
+fn readme(rt: &impl Print) -> io::Result<()> {
     let mut sheet = [0u8; 16];
     let mut map = [0i16; 32];
     let mut values = [0u16; 16];
@@ -319,26 +317,26 @@ fn readme() {
     let built = painted
         .session
         .build(&sheet, &mut map, &mut values, &mut scratch, 1);
-    show_map(&map, 4, 4);
-    say(built.session.place(&map, &values, 0, 0, 8).answer);
-    say(built.session.place(&map, &values, 0, 0, 9).answer);
+    show_map(rt, &map, 4, 4)?;
+    say(rt, built.session.place(&map, &values, 0, 0, 8).answer)?;
+    say(rt, built.session.place(&map, &values, 0, 0, 9).answer)
 }
 
-fn main() {
-    scanned_board();
-    scanned_corner();
-    scanned_lines();
-    scanned_bare();
-    draft_board(4);
-    draft_board(5);
-    draft_board(6);
-    exact_board();
-    exact_row(1, 0);
-    exact_row(1, 1);
-    arrow_head();
-    five_in_a_row();
-    drawn();
-    shrunk_whole(1);
-    shrunk_whole(0);
-    readme();
+fn main(rt: HostRuntime) -> io::Result<()> {
+    scanned_board(&rt)?;
+    scanned_corner(&rt)?;
+    scanned_lines(&rt)?;
+    scanned_bare(&rt)?;
+    draft_board(&rt, 4)?;
+    draft_board(&rt, 5)?;
+    draft_board(&rt, 6)?;
+    exact_board(&rt)?;
+    exact_row(&rt, 1, 0)?;
+    exact_row(&rt, 1, 1)?;
+    arrow_head(&rt)?;
+    five_in_a_row(&rt)?;
+    drawn(&rt)?;
+    shrunk_whole(&rt, 1)?;
+    shrunk_whole(&rt, 0)?;
+    readme(&rt)
 }

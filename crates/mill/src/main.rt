@@ -2,30 +2,31 @@
 
 #![tactic(auto)]
 
-ghost use Rattle.io.specs.Counts.{IsPrefixLen};
+ghost use Rattle.std.specs.Prelude.{◌≤◌, length};
 
-use libc::{STDERR_FILENO, STDIN_FILENO, STDOUT_FILENO};
+use std::io;
+use std::io::Read;
 
 // Reads standard input to its end; returns the number of bytes. A buffer that was filled, or input that cannot be read to its end, counts as all of the
 // buffer, which is longer than any job file.
-fn read_job(job: &mut [u8]) -> usize
-    ensures { IsPrefixLen result job.new }
+fn read_job(rt: &HostRuntime, job: &mut [u8]) -> usize
+    ensures { result ≤ length job.new }
 {
-    let n = io::read_full(STDIN_FILENO, job);
-    if n == job.len() {
-        return n;
+    let mut done = 0;
+    while done < job.len() {
+        match rt.stdin().read(&mut job[done..]) {
+            Ok(0) => return done,
+            Ok(n) => done += n,
+            Err(_) => return job.len(),
+        }
     }
-    let mut more = [0u8; 1];
-    if libc::read(STDIN_FILENO, &mut more) != 0 {
-        return job.len();
-    }
-    n
+    job.len()
 }
 
-fn main() {
+fn main(rt: HostRuntime) -> io::Result<()> {
     // One byte more than a job file may have; sheets of 8,192 pixels; scratch for the widest, 4 × 2,048; nine bytes of text for each of at most 16,384 records.
     let mut file = [0u8; 65537];
-    let n = read_job(&mut file);
+    let n = read_job(&rt, &mut file);
     let mut sheet = [0u8; 8192];
     let mut map = [0i16; 16384];
     let mut values = [0u16; 8192];
@@ -40,7 +41,8 @@ fn main() {
         &mut out,
     );
     let written = ran.written;
-    if !io::write_all(STDOUT_FILENO, &out[..written]) {
-        io::write_all(STDERR_FILENO, b"mill: the text was not written in full\n");
+    if Print::write_all(&rt, &out[..written]).is_err() {
+        eprintln!(rt; "mill: the text was not written in full")?;
     }
+    Ok(())
 }

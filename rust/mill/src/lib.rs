@@ -1,4 +1,4 @@
-//! Jobs for the program `mill`, and the program that `rt check mill` builds.
+//! Jobs for the program `mill`, and the program that `rt run` builds in crates/mill.
 
 use model::random::Random;
 use std::io::Write;
@@ -7,8 +7,8 @@ use std::process::{Child, Command, Output, Stdio};
 
 /// Starts the program with its input and output as pipes.
 pub fn start() -> Child {
-    let program = PathBuf::from(env!("CARGO_MANIFEST_DIR")).join("../../target/bin/mill");
-    assert!(program.exists(), "{} is missing: run `rt check mill` first", program.display());
+    let program = PathBuf::from(env!("CARGO_MANIFEST_DIR")).join("../../crates/mill/out/mill");
+    assert!(program.exists(), "{} is missing: run `rt run` in crates/mill first", program.display());
     Command::new(program).stdin(Stdio::piped()).stdout(Stdio::piped()).spawn().expect("the program starts")
 }
 
