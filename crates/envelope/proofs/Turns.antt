@@ -1,5 +1,5 @@
 -- What the functions' proofs cite: one law for each need that is more than arithmetic. A law's premises are the facts as the code
--- has them at that place, so that `search (needs, law)` finds them and no proof writes a path.
+-- has them at that place, so that `search (rules, law)` finds them and no proof writes a path.
 -- Assumes nothing.
 use Prim.Native.Nat.{ℕ, zero, suc, ◌+◌, ◌-◌, ◌*◌, ◌<◌, ◌≤◌}
 use native.Mathlib.Decide.{dec_le, dec_lt}
