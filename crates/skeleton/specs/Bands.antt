@@ -16,8 +16,8 @@ abbrev pub counted : ℕ → ℕ
 counted n = cond (leb 1 n && leb n 400) n 1
 
 -- the size of pixel p, 0 if it is unlabelled; and the size that it takes off at its sides or corners
-abbrev pub field_own : (m : List ℤ) (p : ℕ) → ℕ
-field_own m p = cond (unlabelled_at m p) 0 (size_at m p)
+abbrev pub own_at : (m : List ℤ) (p : ℕ) → ℕ
+own_at m p = cond (unlabelled_at m p) 0 (size_at m p)
 
 abbrev pub taken_at : (corner : Bool) (m : List ℤ) (p : ℕ) → ℕ
 taken_at corner m p = g corner (counted (size_at m p))
@@ -44,7 +44,7 @@ pub record Blank (s : List ℕ) : Type 0 where
 -- 0 at the ends, and in the last part the sizes of the first n columns of the row that starts at `base`
 pub record Measured (m : List ℤ) (base w n : ℕ) (s : List ℕ) : Type 0 where
   pub framed : Framed w s
-  pub sizes : Part 4101 n (λ x. field_own m (base + x)) s
+  pub sizes : Part 4101 n (λ x. own_at m (base + x)) s
 
 -- s with what the first n columns take off, by their sizes, in the other two parts
 pub record LookedUp (w n : ℕ) (s t : List ℕ) : Type 0 where
@@ -56,7 +56,7 @@ pub record LookedUp (w n : ℕ) (s t : List ℕ) : Type 0 where
 -- the band of row j − 1
 pub record Band (m : List ℤ) (w h j : ℕ) (s : List ℕ) : Type 0 where
   pub framed : Framed w s
-  pub sizes : (y : ℕ) → j ≡ y + 1 → y < h → Part 4101 w (λ x. field_own m (index w x y)) s
+  pub sizes : (y : ℕ) → j ≡ y + 1 → y < h → Part 4101 w (λ x. own_at m (index w x y)) s
   pub sides : Part 0 (w + 2) (λ i. on_sheet w h (taken_at false m) i j) s
   pub corners : Part 2050 (w + 2) (λ i. on_sheet w h (taken_at true m) i j) s
 
