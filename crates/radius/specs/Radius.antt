@@ -2,7 +2,7 @@
 -- 18 and 15. And what q is for: a copper pixel at squared distance e is farther off than the radius exactly if e is above q.
 -- Assumes nothing.
 use Rattle.std.specs.Prelude.{◌≡◌, ◌↔◌, Bool, true, not, cond, ◌&&◌, [], ◌∷◌, ℕ, ◌*◌, ◌/◌, ◌<◌, ◌≤◌, eqb, leb, ltb}
-use Rattle.std.proofs.Math.Logic.{Iff·symm}
+use mathlib.Core.Logic.Iff
 use Rattle.std.proofs.Common.{div-lt_iff_lt-mul, arith, leb-true}
 use Rattle.std.proofs.Math.Nat.{one-le-mul}
 use Rattle.std.proofs.lemmas.Bool.{not-false}
@@ -48,4 +48,4 @@ pub clearance : (r p e : ℕ) → radius_answer r p ≡ 0 → (r * r < e * (p * 
 unfolding radius_answer radius_q
 clearance r p e done =
     let m = measured r p (not-false _ (passed (not (measurable r p)) 18 _ (omega arith) done).0) in
-    rw done (Iff·symm (div-lt_iff_lt-mul (one-le-mul m.some_pitch m.some_pitch)))
+    rw done (Iff.symm (div-lt_iff_lt-mul (one-le-mul m.some_pitch m.some_pitch)))
