@@ -14,18 +14,20 @@ loop-p-init c = (sown-none _ _, omega arith, refl)
 pub loop-p-preserved : goal.loop-p-preserved
 loop-p-preserved c =
     let v = c.seed_of-v in
-    let l = c.before in
-    let s = l.before in
+    let l = c.loop-p in
+    let s = c.args.sheet.now in
+    let m = c.args.map.now in
     let f : SFits w32 v.result = record { sfits = v.type_inv } in
     let e = simp (to_z-of_z, f) at c.put_at.ensures in (
-      rw add-one (e ∙ (rw (v.ensures.0, l.loop-p.invariant.0) (sown-more l.loop-p.p s.args.sheet.now s.args.map.now s.requires (omega arith)))),
+      rw add-one (e ∙ (rw (v.ensures.0, l.invariant.0) (sown-more l.p s m c.requires (omega arith)))),
       omega arith,
-      c.put_at.auto.map ∙ l.loop-p.invariant.2,
+      c.put_at.auto.map ∙ l.invariant.2,
     )
 
 pub returns : goal.returns
 returns c =
-    let l = c.before in
-    let s = l.before in
-    let n : l.loop-p.p ≡ length s.args.sheet.now = omega arith in
-    l.loop-p.invariant.0 ∙ (rw n (sown-all s.args.sheet.now s.args.map.now s.requires))
+    let l = c.loop-p in
+    let s = c.args.sheet.now in
+    let m = c.args.map.now in
+    let n : l.p ≡ length s = omega arith in
+    l.invariant.0 ∙ (rw n (sown-all s m c.requires))
