@@ -18,4 +18,4 @@ loop-x-preserved c =
     let u : get_or l.ways i (pos 0) ≡ get_or c.args.ways.now i (pos 0) = l.invariant.done.high_kept i (omega arith) in
     let e = rw (zero_bits _ fu, to_z-of_z w16 _ fn, l.invariant.left l.x (omega arith), u) at c.step-d.ensures in
     let k = rw (to_z-of_z w16 _ fu, to_z-of_z w16 _ fd, u) at c.shorter_of.ensures in
-    rw (to_z-of_z w16 _ fs, to_z-of_z w16 _ fd) (spread_more l.invariant (omega arith) (omega arith) (omega arith) e k)
+    simp (to_z-of_z, fs, fd) (spread_more l.invariant (omega arith) (omega arith) (omega arith) e k)
