@@ -1,0 +1,12 @@
+-- `morphology::threshold_run` meets its contract. The invariant: the pixels before p are written.
+use Prim.Native.Nat.{◌+◌, ◌-◌, ◌≤◌}
+use Rattle.raster.specs.Rows.{RowWritten}
+use Rattle.morphology.specs.Threshold.{level_at}
+use Rattle.morphology.proofs.threshold_run.Given as goal
+
+abbrev pub invariant-loop-p : goal.invariant-loop-p
+invariant-loop-p l =
+    RowWritten l.from (l.p - l.from) (λ i. level_at l.map l.q l.v (l.from + i)) l.initial.sheet l.sheet × ((l.from ≤ l.p) × (l.p - l.from ≤ l.to - l.from))
+
+abbrev pub decreases-loop-p : goal.decreases-loop-p
+decreases-loop-p l = l.to - l.p
