@@ -196,7 +196,7 @@ module _ (s : Session) (n : ℕ) (sheet : List ℕ) (m : Maps) (scratch : List �
   module _ (q : ℕ) (cut : List ℕ) (left used : List ℤ) (answer : r.answer ≡ first_of (resize_table s (take n sheet) (take (2 * n) m.pairs) scratch q))
       (session : r.session ≡ on_done r.answer (stale s) s)
       (behind : drop n cut ≡ drop n sheet)
-      (Lent-map : take (2 * n) left ≡ on_done r.answer (unmapped (take (2 * n) m.pairs)) (take (2 * n) m.pairs))
+      (lent_map : take (2 * n) left ≡ on_done r.answer (unmapped (take (2 * n) m.pairs)) (take (2 * n) m.pairs))
       (behind-map : drop (2 * n) left ≡ drop (2 * n) m.pairs)
       (used-scratch : used ≡ on_done r.answer (scratch_by s scratch) scratch) where
     pub expand_executed : take n cut ≡ on_done r.answer (expanded s.width s.height q (take n sheet)) (take n sheet)
@@ -204,7 +204,7 @@ module _ (s : Session) (n : ℕ) (sheet : List ℕ) (m : Maps) (scratch : List �
     expand_executed lent = record {
       answer = answer;
       left =
-          rw (← answer, session, lent, behind, Lent-map, behind-map, used-scratch, and-true (eqb r.answer 0), joined-pairs (eqb r.answer 0) _ _ _)
+          rw (← answer, session, lent, behind, lent_map, behind-map, used-scratch, and-true (eqb r.answer 0), joined-pairs (eqb r.answer 0) _ _ _)
           (same_state (joined (eqb r.answer 0) _ _ _ _ _ _) refl refl);
     }
 
@@ -213,6 +213,6 @@ module _ (s : Session) (n : ℕ) (sheet : List ℕ) (m : Maps) (scratch : List �
     shrink_executed lent = record {
       answer = answer;
       left =
-          rw (← answer, session, lent, behind, Lent-map, behind-map, used-scratch, and-true (eqb r.answer 0), joined-pairs (eqb r.answer 0) _ _ _)
+          rw (← answer, session, lent, behind, lent_map, behind-map, used-scratch, and-true (eqb r.answer 0), joined-pairs (eqb r.answer 0) _ _ _)
           (same_state (joined (eqb r.answer 0) _ _ _ _ _ _) refl refl);
     }
