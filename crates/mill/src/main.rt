@@ -7,18 +7,45 @@ ghost use Rattle.std.specs.Prelude.{◌≤◌, length};
 use std::io;
 use std::io::Read;
 
+// Reads once into the buffer; returns the number of bytes, 0 if the input has ended or the read has failed.
+fn read_some(rt: &HostRuntime, buf: &mut [u8]) -> usize
+    ensures { result ≤ length buf.new }
+{
+    match rt.stdin().read(buf) {
+        Ok(n) => n,
+        Err(_) => 0,
+    }
+}
+
+// Reads until the buffer is full or nothing more comes; returns the number of bytes.
+fn read_full(rt: &HostRuntime, buf: &mut [u8]) -> usize
+    ensures { result ≤ length buf.new }
+{
+    let mut done = 0;
+    while done < buf.len() {
+        let n = read_some(rt, &mut buf[done..]);
+        if n == 0 {
+            break;
+        }
+        done += n;
+    }
+    done
+}
+
+// One more read finds that the input has ended.
+fn has_ended(rt: &HostRuntime) -> bool {
+    let mut more = [0u8; 1];
+    matches!(rt.stdin().read(&mut more), Ok(0))
+}
+
 // Reads standard input to its end; returns the number of bytes. A buffer that was filled, or input that cannot be read to its end, counts as all of the
 // buffer, which is longer than any job file.
 fn read_job(rt: &HostRuntime, job: &mut [u8]) -> usize
     ensures { result ≤ length job.new }
 {
-    let mut done = 0;
-    while done < job.len() {
-        match rt.stdin().read(&mut job[done..]) {
-            Ok(0) => return done,
-            Ok(n) => done += n,
-            Err(_) => return job.len(),
-        }
+    let n = read_full(rt, job);
+    if n == job.len() || has_ended(rt) {
+        return n;
     }
     job.len()
 }
