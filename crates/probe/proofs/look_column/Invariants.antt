@@ -1,0 +1,12 @@
+-- `probe::look_column` meets its contract. The invariant: from row r to row j − 1 the column has no copper.
+use mathlib.Core.Path.{◌≡◌}
+use mathlib.Core.Bool.{false}
+use Prim.Native.Nat.{ℕ, ◌-◌, ◌<◌, ◌≤◌}
+use Rattle.raster.specs.Sheet.{copper_of}
+use Rattle.probe.proofs.look_column.Given as goal
+
+abbrev pub invariant-loop-j : goal.invariant-loop-j
+invariant-loop-j l = (l.r ≤ l.j) × ((l.j ≤ l.h) × ((i : ℕ) → l.r ≤ i → i < l.j → copper_of l.sheet l.w l.x i ≡ false))
+
+abbrev pub decreases-loop-j : goal.decreases-loop-j
+decreases-loop-j l = l.h - l.j
