@@ -39,6 +39,7 @@ pub fn is_map_by(engine: u16, s: Session, map: &[i16], values: &[u16]) -> bool
     is_map(s, map)
 }
 
+#[tactic(auto, unfolding(crate::specs::Refusals::open_table, raster::specs::Refusal::first_of))]
 pub fn open_answer(sheet: &[u8], w: u16, h: u16) -> u32
     ensures { result ≡ first_of (open_table sheet.now w h) }
 {
@@ -51,6 +52,7 @@ pub fn open_answer(sheet: &[u8], w: u16, h: u16) -> u32
     0
 }
 
+#[tactic(auto, unfolding(crate::specs::Refusals::fill_table, raster::specs::Refusal::first_of))]
 pub fn fill_answer(s: Session, sheet: &[u8], x: u16, y: u16, cols: u16, rows: u16) -> u32
     ensures { result ≡ first_of (fill_table s sheet.now x y cols rows) }
 {
@@ -69,6 +71,7 @@ pub fn fill_answer(s: Session, sheet: &[u8], x: u16, y: u16, cols: u16, rows: u1
     0
 }
 
+#[tactic(auto, unfolding(crate::specs::Refusals::resize_table, crate::specs::Refusals::resize_table_by, raster::specs::Refusal::first_of))]
 pub fn resize_answer(s: Session, sheet: &[u8], map: &[i16], scratch: &[i16], q: u32) -> u32
     ensures { result ≡ first_of (resize_table s sheet.now map.now scratch.now q) }
 {
@@ -86,6 +89,7 @@ pub fn resize_answer(s: Session, sheet: &[u8], map: &[i16], scratch: &[i16], q: 
     0
 }
 
+#[tactic(auto, unfolding(crate::specs::Refusals::read_table, raster::specs::Refusal::first_of))]
 pub fn read_answer(s: Session, map: &[i16], wrong: bool) -> u32
     ensures { result ≡ first_of (read_table s map.now wrong) }
 {
@@ -107,6 +111,7 @@ pub fn read_answer(s: Session, map: &[i16], wrong: bool) -> u32
     0
 }
 
+#[tactic(auto, unfolding(crate::specs::Refusals::probe_table, raster::specs::Refusal::first_of))]
 pub fn probe_answer(s: Session, sheet: &[u8], points: &[u16], scratch: &[i16], out: &[u32]) -> u32
     ensures { result ≡ first_of (probe_table s sheet.now points.now scratch.now out.now) }
 {
@@ -130,6 +135,7 @@ pub fn probe_answer(s: Session, sheet: &[u8], points: &[u16], scratch: &[i16], o
     0
 }
 
+#[tactic(auto, unfolding(crate::specs::Refusals::build_table, crate::specs::Refusals::build_table_by, raster::specs::Refusal::first_of))]
 pub fn build_answer(
     s: Session,
     sheet: &[u8],
@@ -157,6 +163,7 @@ pub fn build_answer(
     0
 }
 
+#[tactic(auto, unfolding(crate::specs::Refusals::place_rows, raster::specs::Refusal::first_of))]
 pub fn place_refusal(s: Session, map: &[i16], values: &[u16], x: u16, y: u16, q: u32) -> u32
     ensures { result ≡ first_of (place_rows s (maps map.now values.now) x y q) }
 {
@@ -178,6 +185,7 @@ pub fn place_refusal(s: Session, map: &[i16], values: &[u16], x: u16, y: u16, q:
     0
 }
 
+#[tactic(auto, unfolding(crate::specs::Refusals::run_rows, raster::specs::Refusal::first_of))]
 pub fn run_refusal(s: Session, map: &[i16], values: &[u16], d: u16, n: u16) -> u32
     ensures { result ≡ first_of (run_rows s (maps map.now values.now) d n) }
 {

@@ -1,0 +1,10 @@
+-- `session::state::is_sound` meets its contract: the four parts are the definition's.
+use Rattle.session.specs.State.{sound}
+use Rattle.session.proofs.state.is_sound.Goals as goal
+
+pub returns : goal.returns
+unfolding sound
+returns c =
+    let k = c.before in
+    let m = k.before in
+    rw (m.is_sheet_sound.ensures, m.is_map_sound.ensures, k.is_cutter_sound.ensures, c.is_closest_sound.ensures)
