@@ -1,15 +1,13 @@
 -- `abi::abi_session_row` meets its contract: a row that is handed out has 2 × W numbers, not none, and y such rows stand before it.
--- Assumes nothing.
 use mathlib.Core.Path.{◌≡◌, refl, sym, ap, ◌∙◌}
 use mathlib.Core.Bool.{Bool, true, false}
 use mathlib.Core.List.{List}
 use Prim.Native.Nat.{ℕ, min, ◌*◌, ◌-◌, ◌<◌, ◌≤◌}
-use native.Mathlib.Nat.{mul-le-mul, mul-le-mul_right}
+use native.Mathlib.Nat.{mul-le-mul_right}
 use native.Mathlib.Omega.{arith}
 use lib.Dec.{ltb}
 use lib.IntN.{ℤ}
 use lib.ListN.{length, take, drop, length-take, length-drop}
-use borrow.Author.Rules.{rules}
 use borrow.Author.Tests.{eqb-true, ltb-true}
 use Rattle.raster.specs.PixelsLaws.{nothing}
 use Rattle.raster.specs.Tests.{and_left, and_right}
@@ -17,8 +15,8 @@ use Rattle.session.specs.declared.Session.{Session}
 use Rattle.session.specs.State.{active}
 use Rattle.session.specs.Calls.{has_row, map_row}
 use Rattle.session.proofs.Granted.{active-limits}
-use Rattle.abi.proofs.abi_session_row.Statement.{statement}
-use Rattle.abi.proofs.abi_session_row.Tie as tie
+use Rattle.abi.proofs.abi_session_row.Goals.{Else-len-eq0}
+use Rattle.abi.proofs.abi_session_row.Goals as goal
 
 -- what a row is that the map has
 record Handed (s : Session) (map : List ℤ) (y : ℕ) : Type 0 where
@@ -40,8 +38,8 @@ handed s map y e =
     record { has = e; long = rw e counted; some = limits.some; small = limits.wide }
 
 -- the map has the row, or the row is empty
-handed-if : (s : Session) (map : List ℤ) (y : ℕ) → (length (map_row s map y) ≡ 0 → ⊥) → Handed s map y
-handed-if s map y some = go (has_row s map y) refl
+handed_if : (s : Session) (map : List ℤ) (y : ℕ) → (length (map_row s map y) ≡ 0 → ⊥) → Handed s map y
+handed_if s map y some = go (has_row s map y) refl
   where
     go : (t : Bool) → has_row s map y ≡ t → Handed s map y
     go false e = absurd (some (rw e))
@@ -55,30 +53,20 @@ empty s map y none = go (has_row s map y) refl
     go false e = e
     go true e = let h = handed s map y e in absurd (omega (arith, none, h.long, h.some))
 
-returns : tie.Need-returns
-returns c =
-    let a = c.before.before.args in
-    let e = sym (ap length c.before.map_row.ensures) ∙ c.if1.true in
-    let none = empty a.s a.map.now a.y e in (rw none, nothing _ e)
-
-of : (c : tie.Else1) → Handed c.before.before.args.s c.before.before.args.map.now c.before.before.args.y
-of c = handed-if _ _ _ (λ e. c.if1.false (ap length c.before.map_row.ensures ∙ e))
+of : (c : Else-len-eq0) → Handed c.args.s c.args.map.now c.args.y
+of c = handed_if _ _ _ (λ e. c.if-len-eq0.false (ap length c.map_row-len.ensures ∙ e))
 
 -- as many numbers as the row has
-counted : (c : tie.Else1) → length c.before.map_row.result.now ≡ 2 * c.before.before.args.s.width
-counted c = ap length c.before.map_row.ensures ∙ (of c).long
+counted : (c : Else-len-eq0) → length c.map_row-len.result.now ≡ 2 * c.args.s.width
+counted c = ap length c.map_row-len.ensures ∙ (of c).long
 
-mul-t8 : tie.Need-overflow-mul-t8
-mul-t8 c =
-    let a = c.before.before.args in
-    let y : a.y ≤ 65535 = omega (arith, c.before.before.ranges.y) in
-    omega (arith, ap (λ (n : ℕ). n * a.y) (counted c), mul-le-mul (of c).small y)
+pub returns-then-len-eq0 : goal.returns-then-len-eq0
+returns-then-len-eq0 c =
+    let a = c.args in
+    let e = sym (ap length c.map_row-len.ensures) ∙ c.if-len-eq0.true in
+    let none = empty a.s a.map.now a.y e in record { spanned = rw none; row_there = nothing _ e }
 
-returns-2 : tie.Need-returns-2
-returns-2 c =
-    let a = c.before.before.args in
-    let n : length c.before.map_row.result.now * a.y ≡ 2 * (a.y * a.s.width) = omega (arith, ap (λ (n : ℕ). n * a.y) (counted c)) in
-    (rw (n, counted c, (of c).has), rw (n, counted c, (of c).has))
-
-pub abi-session-row-spec : {M : Type 1} → statement M
-abi-session-row-spec = tie.close (tie.spec (λ c κs. search rules) returns mul-t8 returns-2)
+pub returns : goal.returns
+returns c =
+    let a = c.args in
+    let n : length c.map_row-len.result.now * a.y ≡ 2 * (a.y * a.s.width) = omega (arith, ap (λ (n : ℕ). n * a.y) (counted c)) in record { spanned = rw (n, counted c, (of c).has); row_there = rw (n, counted c, (of c).has) }
