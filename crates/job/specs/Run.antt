@@ -1,7 +1,7 @@
 -- Running a job: document 01, "Job file" and "Lists of calls", and document 02, C-12. Which list of calls the records mean, what is printed of it and what it
 -- leaves in the lent buffers. Answers and effects of a call are those of `session`.
 -- Assumes nothing.
-use Rattle.std.specs.Prelude.{List, [], ◌∷◌, ◌++◌, cond, not, ℕ, ◌+◌, ◌*◌, eqb, ltb, ℤ, length, take, drop}
+use Rattle.std.specs.Prelude.{List, [], ◌∷◌, ◌++◌, cond, not, ℕ, ◌*◌, eqb, ltb, ℤ, length, take, drop}
 use Rattle.std.proofs.Math.Option.{some}
 use Rattle.raster.specs.Refusal.{first_of, on_done}
 use Rattle.cutter.specs.Kinds.{Maps, maps}

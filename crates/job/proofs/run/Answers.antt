@@ -1,0 +1,61 @@
+-- `job::run` meets its contract: the four cases of its answer; the text is put_line's or run_all's.
+use mathlib.Core.Path.{refl, ap}
+use native.Mathlib.Omega.{arith}
+use Rattle.cutter.specs.Kinds.{Maps}
+use Rattle.records.specs.FormatLaws.{split_done, split_refused}
+use Rattle.records.specs.Text.{decimal_digits, answer_line}
+use Rattle.records.specs.TextLaws.{put_front}
+use Rattle.job.specs.Run.{text_of, printed, state_left}
+use Rattle.job.specs.RunLaws.{no-room_to_refuse, not_split, no-room_to_run, run_whole}
+use Rattle.job.proofs.run.Goals as goal
+
+pub returns-then-out-lt5 : goal.returns-then-out-lt5
+unfolding printed state_left
+returns-then-out-lt5 c =
+    let a = c.args in
+    rw (no-room_to_refuse a.job.now a.out.now (split_refused a.job.now c.split-counted.ensures c.if-counted-ne0.true) c.if-out-lt5.true)
+    (record { answered = refl; counted = refl; out_left = refl; sheet_left = refl; map_left = refl; values_left = refl; scratch_left = refl })
+
+pub put_line-requires : goal.put_line-requires
+unfolding answer_line decimal_digits
+put_line-requires c = omega arith
+
+pub returns-then-counted-ne0 : goal.returns-then-counted-ne0
+unfolding printed text_of state_left
+returns-then-counted-ne0 c =
+    let a = c.args in
+    let is = split_refused a.job.now c.split-counted.ensures c.if-counted-ne0.true in
+    let f = put_front c.put_line.ensures in
+    rw (not_split a.job.now a.out.now is c.if-out-lt5.false, is)
+    (record { answered = refl; counted = f.0; out_left = f.1; sheet_left = refl; map_left = refl; values_left = refl; scratch_left = refl })
+
+pub returns-then-out-counted : goal.returns-then-out-counted
+unfolding printed state_left
+returns-then-out-counted c =
+    let a = c.args in
+    let d = split_done a.job.now c.split-counted.ensures c.if-counted-ne0.false in
+    rw (no-room_to_run a.job.now a.out.now d.0 (omega (arith, d.1, c.if-out-counted.true)))
+    (record { answered = refl; counted = refl; out_left = refl; sheet_left = refl; map_left = refl; values_left = refl; scratch_left = refl })
+
+pub run_all-requires : goal.run_all-requires
+run_all-requires c =
+    let d = split_done c.args.job.now c.split-counted.ensures c.if-counted-ne0.false in
+    (d.0, omega (arith, d.1, c.if-out-counted.false))
+
+pub returns : goal.returns
+unfolding printed text_of state_left
+returns c =
+    let a = c.args in
+    let d = split_done a.job.now c.split-counted.ensures c.if-counted-ne0.false in
+    let f = put_front c.run_all.ensures.text in
+    let l = c.run_all.ensures.buffers in
+    rw (run_whole a.job.now a.out.now d.0 (omega (arith, d.1, c.if-out-counted.false)), d.0)
+    (record {
+      answered = refl;
+      counted = f.0;
+      out_left = f.1;
+      sheet_left = l.sheet_left;
+      map_left = ap (λ (m : Maps). m.pairs) l.maps_left;
+      values_left = ap (λ (m : Maps). m.values) l.maps_left;
+      scratch_left = l.scratch_left;
+    })
