@@ -107,7 +107,14 @@ fn show_sheet(rt: &impl Print, sheet: &[u8], w: usize, h: usize) -> io::Result<(
 // ---- the scans
 
 // One sheet, by one scan.
-fn show_scan(rt: &impl Print, sheet: &[u8], map: &mut [i16], w: usize, h: usize, corners: bool) -> io::Result<()>
+fn show_scan(
+    rt: &impl Print,
+    sheet: &[u8],
+    map: &mut [i16],
+    w: usize,
+    h: usize,
+    corners: bool,
+) -> io::Result<()>
     requires w_nonzero { (0 < w) × ((w ≤ 2048) × (h ≤ 2048)) }
     requires sheet_len { (length sheet.now ≡ h * w) × (length map.old ≡ 2 * (h * w)) }
 {
@@ -199,7 +206,14 @@ fn draft_board(rt: &impl Print, engine: u16) -> io::Result<()>
 // ---- the exact map
 
 // One sheet.
-fn show_exact(rt: &impl Print, sheet: &[u8], map: &mut [i16], scratch: &mut [i16], w: usize, h: usize) -> io::Result<()>
+fn show_exact(
+    rt: &impl Print,
+    sheet: &[u8],
+    map: &mut [i16],
+    scratch: &mut [i16],
+    w: usize,
+    h: usize,
+) -> io::Result<()>
     requires w_bound { (w ≤ 2048) × (h ≤ 2048) }
     requires sheet_len { (length sheet.now ≡ h * w) × ((length map.old ≡ 2 * (h * w)) × (scratch_need w ≤ length scratch.old)) }
 {
@@ -243,13 +257,16 @@ fn picture(rt: &impl Print, sheet: &[u8], w: usize, h: usize) -> io::Result<()>
 }
 
 // The sheet, its skeleton and what is rebuilt from that.
-fn show_skeleton(rt: &impl Print, sheet: &[u8],
+fn show_skeleton(
+    rt: &impl Print,
+    sheet: &[u8],
     map: &mut [i16],
     scratch: &mut [i16],
     marks: &mut [u8],
     out: &mut [u8],
     w: usize,
-    h: usize,) -> io::Result<()>
+    h: usize,
+) -> io::Result<()>
     requires w_bound { (w ≤ 2048) × (h ≤ 2048) }
     requires sheet_len { (length sheet.now ≡ h * w) × ((length map.old ≡ 2 * (h * w)) × (scratch_need w ≤ length scratch.old)) }
     requires marks_len { (length marks.old ≡ h * w) × (length out.old ≡ h * w) }
@@ -268,7 +285,16 @@ fn five_in_a_row(rt: &impl Print) -> io::Result<()> {
     let mut scratch = [0i16; 20];
     let mut marks = [0u8; 5];
     let mut out = [0u8; 5];
-    show_skeleton(rt, &sheet, &mut map, &mut scratch, &mut marks, &mut out, 5, 1)
+    show_skeleton(
+        rt,
+        &sheet,
+        &mut map,
+        &mut scratch,
+        &mut marks,
+        &mut out,
+        5,
+        1,
+    )
 }
 
 fn drawn(rt: &impl Print) -> io::Result<()> {
@@ -281,7 +307,16 @@ fn drawn(rt: &impl Print) -> io::Result<()> {
     let mut scratch = [0i16; 96];
     let mut marks = [0u8; 216];
     let mut out = [0u8; 216];
-    show_skeleton(rt, &sheet, &mut map, &mut scratch, &mut marks, &mut out, 24, 9)
+    show_skeleton(
+        rt,
+        &sheet,
+        &mut map,
+        &mut scratch,
+        &mut marks,
+        &mut out,
+        24,
+        9,
+    )
 }
 
 // ---- a sheet of 3 × 3, copper everywhere, shrunk by q
