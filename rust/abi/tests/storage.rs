@@ -5,13 +5,13 @@ mod common;
 
 use abi::session::Session;
 use abi::storage;
-use common::{beside, built, document_01, map_of, numbers, old, wrong_lengths, Lent, MARGIN, SHORT_LENGTHS, SHORT_LENGTHS_OF_NONE};
+use common::{built, map_of, old, Lent};
 use model::boards::{self, Board};
 use model::maps;
 use model::random::Random;
 use soak::calls::Call;
 use soak::library::Library;
-use soak::list::List;
+use soak::list::{Check, List};
 
 /// A small board's map goes to the memory card, is lost, and comes back number by number. It can be looked at then. Before a cutter is
 /// placed the map is built again: to read it back was a write by something else than a call, and what is promised of place and run lapses
@@ -49,6 +49,9 @@ type Beside<T, U> = [fn(u16, u16, &[T], &mut [U]) -> u32; 2];
 const STORE: Beside<i16, i8> = [storage::store, model::storage::store];
 const READ_BACK: Beside<i8, i16> = [storage::read_back, model::storage::read_back];
 
+/// How many numbers around a lent slice must stay as they are.
+const MARGIN: usize = 40;
+
 /// Numbers that a slice may hold.
 trait Number: Copy + PartialEq + std::fmt::Debug {
     fn any(random: &mut Random) -> Self;
@@ -66,8 +69,8 @@ impl Number for i16 {
     }
 }
 
-/// Makes a call of the library beside the model's, with a source and a target of this length, which holds anything. The source must not be
-/// written, nor anything around it. The answer and the target.
+/// Makes a call of the library with a source and a target of this length, which holds anything. Answer and target must be the model's. The
+/// source must not be written, nor anything around either, nor the target if the call is refused. The answer and the target.
 fn made<T: Number, U: Number>(
     [library, model]: Beside<T, U>,
     [w, h]: [u16; 2],
@@ -77,15 +80,27 @@ fn made<T: Number, U: Number>(
 ) -> (u32, Vec<U>) {
     let about = format!("{w} × {h}, {} numbers to {length}, from {:?}", source.len(), &source[..source.len().min(40)]);
     let mut from = Lent::around(source, MARGIN, || T::any(random));
-    let target = Lent::new(length, MARGIN, || U::any(random));
-    let made = beside(target, |to| library(w, h, from.slice(), to), |to| model(w, h, source, to), &about);
+    let mut to = Lent::new(length, MARGIN, || U::any(random));
+    let mut expected = to.slice().to_vec();
+    let answer = library(w, h, from.slice(), to.slice());
+    assert_eq!(answer, model(w, h, source, &mut expected), "{about}");
     from.written(0, "source", &about);
-    made
+    if answer != 0 {
+        to.written(0, "target", &about);
+    }
+    let found = to.written(length, "target", &about);
+    assert!(found == expected, "the target: {about}");
+    (answer, found.to_vec())
 }
 
 /// The answer of a call whose target is as long as its source.
 fn answer<T: Number, U: Number>(call: Beside<T, U>, sides: [u16; 2], source: &[T], random: &mut Random) -> u32 {
     made(call, sides, source, source.len(), random).0
+}
+
+/// How many numbers a map of these sides has.
+fn numbers([w, h]: [u16; 2]) -> usize {
+    2 * usize::from(w) * usize::from(h)
 }
 
 /// Stores a map that can be stored and reads it back, which must give the map. The bytes.
@@ -261,7 +276,7 @@ fn lengths() {
     let mut random = Random::new(249);
     for sides in [[1, 1], [1, 9], [9, 1], [5, 4], [128, 1], [1, 128], [128, 128], [129, 1], [1, 129], [2_048, 1], [1, 2_048]] {
         let right = numbers(sides);
-        for wrong in wrong_lengths(right) {
+        for wrong in [0, 1, right - 2, right - 1, right + 1, right + 2, 2 * right, right / 2].into_iter().filter(|&wrong| wrong != right) {
             for [source, target] in [[wrong, right], [right, wrong], [wrong, wrong]] {
                 // numbers that are stored, and numbers that are not
                 for number in [0, 77, -128] {
@@ -274,11 +289,14 @@ fn lengths() {
             }
         }
     }
-    for (lengths, expected) in [(SHORT_LENGTHS, 12), (SHORT_LENGTHS_OF_NONE, 11)] {
-        for (sides, length) in lengths {
-            assert_eq!(answer(STORE, sides, &vec![0; length], &mut random), expected, "{sides:?}");
-            assert_eq!(answer(READ_BACK, sides, &vec![0; length], &mut random), expected, "{sides:?}");
-        }
+    // lengths that are the product's last 16 bits
+    for (sides, length) in [([128, 256], 0), ([256, 256], 0), ([2_048, 2_048], 0), ([2_047, 2_047], 57_346), ([1_024, 64], 0)] {
+        assert_eq!(answer(STORE, sides, &vec![0; length], &mut random), 12, "{sides:?}");
+        assert_eq!(answer(READ_BACK, sides, &vec![0; length], &mut random), 12, "{sides:?}");
+    }
+    for (sides, length) in [([32_768, 32_768], 0), ([65_535, 65_535], 2), ([0, 7], 0), ([7, 0], 0), ([0, 0], 0)] {
+        assert_eq!(answer(STORE, sides, &vec![0; length], &mut random), 11, "{sides:?}");
+        assert_eq!(answer(READ_BACK, sides, &vec![0; length], &mut random), 11, "{sides:?}");
     }
 }
 
@@ -381,6 +399,17 @@ fn place_and_run_as_before() {
             session = if random.below(5) == 0 { reply.session.lift().session } else { reply.session };
         }
     }
+}
+
+/// A list of calls of the library, compared with the model and held against the plain board, with the exact map of document 01's board.
+fn document_01(random: &mut Random) -> List<Library> {
+    let mut list = List::new(Check::Both, 0, random);
+    assert_eq!(list.call(Call::Open { w: 4, h: 4 }, random), 0);
+    for (x, y) in boards::document_01().copper() {
+        assert_eq!(list.call(Call::Paint { x, y, w: 1, h: 1 }, random), 0);
+    }
+    assert_eq!(list.call(Call::Build { engine: 1 }, random), 0);
+    list
 }
 
 /// Reads bytes back into the pairs of a list.

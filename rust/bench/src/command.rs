@@ -13,7 +13,7 @@ use: bench [ROUNDS [CALL...]]   times the calls of the library, or some alone, b
      bench -h | --help          these lines
 ROUNDS is how often all boards are gone through, from 1; 10 if it is not given.
 CALL is exact, 8SED, 4SED, city-block, chessboard, chamfer, expand, shrink, skeleton, rebuild, run, probe, probe-row,
-store, read-back or join.
+store or read-back.
 ";
 
 /// What is to be timed, in how many rounds, from 1, or to be measured.

@@ -8,14 +8,13 @@ mod peers;
 mod stack;
 
 use abi::session::{Probed, Reply, Session};
-use abi::{join, storage};
+use abi::storage;
 use bench::plain_calls::{self, FUSED, PLAIN};
-use bench::plain_exact::{self, scratch_need};
-use bench::{plain_join, plain_storage};
+use bench::plain_exact::scratch_need;
+use bench::plain_storage;
 use cli::Stop;
 use command::Command;
 use model::boards::{self, Board};
-use model::random::Random;
 use std::process::ExitCode;
 use std::time::{Duration, Instant};
 
@@ -34,7 +33,6 @@ struct Slices<'a> {
     scratch: &'a mut [i16],
     marks: &'a mut [u8],
     out: &'a mut [u8],
-    maps: [&'a mut [i16]; 2],
     points: Vec<u16>,
     distances: Vec<u32>,
     rows: u32,
@@ -166,25 +164,6 @@ fn again<T, U>(session: Session, source: &[T], target: &mut [U], call: fn(u16, u
     Reply { answer: call(w, h, source, target), session }
 }
 
-/// The exact maps of the sheet and of other tracks than any board has, and other numbers where they are joined.
-fn to_join(on: &mut Slices) {
-    let (w, h) = (on.session.width.into(), on.session.height.into());
-    let other = boards::tracks(w, h, &mut Random::new(32));
-    for (map, sheet) in on.maps.iter_mut().zip([&*on.sheet, &other.sheet]) {
-        plain_exact::exact(sheet, map, on.scratch, w, h);
-    }
-    on.map.fill(7);
-}
-
-/// A join of the library or of plain Rust.
-type Join = fn(u16, u16, &[i16], &[i16], &mut [i16]) -> u32;
-
-/// Joins the two maps.
-fn joined(on: &mut Slices, join: Join) -> Reply {
-    let [first, second] = &on.maps;
-    Reply { answer: join(on.session.width, on.session.height, first, second, on.map), session: on.session }
-}
-
 /// A call that looks at every pixel.
 fn whole(board: &Board) -> usize {
     board.sheet.len()
@@ -223,7 +202,7 @@ const fn storing(name: &'static str, ready: fn(&mut Slices), library: Call, plai
     What { name, sides: &[STORED_SIDE], lent: [6, 0], pixels: |board| MAPS * whole(board), ready, library, plain, fused: None }
 }
 
-const WHATS: [What; 16] = [
+const WHATS: [What; 15] = [
     build::<1>("exact", [5, 8], Some(fused_build::<1>)),
     build::<2>("8SED", [5, 0], Some(fused_build::<2>)),
     build::<3>("4SED", [5, 0], Some(fused_build::<3>)),
@@ -295,16 +274,6 @@ const WHATS: [What; 16] = [
         |on| again(on.session, &on.bytes, on.map, storage::read_back),
         |on| again(on.session, &on.bytes, on.map, plain_storage::read_back),
     ),
-    What {
-        name: "join",
-        sides: &SIDES,
-        lent: [12, 0],
-        pixels: whole,
-        ready: to_join,
-        library: |on| joined(on, join::join),
-        plain: |on| joined(on, plain_join::join),
-        fused: None,
-    },
 ];
 
 /// The memory of one contender, enough for boards up to some side.
@@ -315,15 +284,13 @@ struct Memory {
     scratch: Vec<i16>,
     marks: Vec<u8>,
     out: Vec<u8>,
-    maps: [Vec<i16>; 2],
 }
 
 impl Memory {
     fn new(side: usize) -> Self {
         let bytes = vec![0; side * side];
         let (map, values, scratch) = (vec![0; 2 * side * side], vec![0; side * side], vec![0; scratch_need(side)]);
-        let maps = [map.clone(), map.clone()];
-        Memory { sheet: bytes.clone(), map, values, scratch, marks: bytes.clone(), out: bytes, maps }
+        Memory { sheet: bytes.clone(), map, values, scratch, marks: bytes.clone(), out: bytes }
     }
 
     /// The slices for a board, with its sheet, no more scratch than is needed, no points and no stored map. The others are as they were.
@@ -339,7 +306,6 @@ impl Memory {
             scratch: &mut self.scratch[..scratch_need(w)],
             marks: &mut self.marks[..w * h],
             out: &mut self.out[..w * h],
-            maps: self.maps.each_mut().map(|map| &mut map[..2 * w * h]),
             points: Vec::new(),
             distances: Vec::new(),
             rows: 0,
@@ -511,7 +477,7 @@ fn table(rounds: usize, lines: &[Line]) -> String {
     text += "test only a row's first pixel for a label, and start a sweep at the first labelled pixel; to exact is the library's time to\n";
     text += "that of its exact map of the board, if this is timed too; a run's pixels are those it comes to, and a probe's those of the\n";
     text += "sheet, with a point in every row, or for probe row a hundred in row 8; store and read back are timed at 128 alone, by the\n";
-    text += "hundred, for no longer sides are stored; join takes the exact maps of the board and of other tracks\n\n";
+    text += "hundred, for no longer sides are stored\n\n";
     text += &format!(
         "{:10}  {:11}  {:>4}  {:>7}  {:>5}  {:>5}  {:>5}  {:>5}  {:>8}  {:>7}  library 2,048 / 512\n",
         "call", "board", "side", "library", "plain", "ratio", "fused", "ratio", "to exact", "lent"

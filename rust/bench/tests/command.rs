@@ -23,8 +23,8 @@ fn refused_words() {
         let rounds = words[words.len() - 1];
         assert_stops(&mut bench(words), 2, &format!("ROUNDS is a number from 1 to {}, not `{rounds}`\nuse: ", usize::MAX));
     }
-    let calls = "exact, 8SED, 4SED, city-block, chessboard, chamfer, expand, shrink, skeleton, rebuild, run, probe, probe-row, store, \
-                 read-back, join";
+    let calls =
+        "exact, 8SED, 4SED, city-block, chessboard, chamfer, expand, shrink, skeleton, rebuild, run, probe, probe-row, store, read-back";
     for words in [&["1", "saw"][..], &["1", "exact", "saw"]] {
         assert_stops(&mut bench(words), 2, &format!("CALL is one of {calls}, not `saw`\nuse: "));
     }
@@ -40,7 +40,7 @@ fn refused_words() {
 fn stack() {
     let text = String::from_utf8(written(&mut bench(&["--stack"]))).unwrap();
     let calls: Vec<(&str, &str)> = text.lines().skip(2).map(|line| line.rsplit_once(' ').expect("two columns")).collect();
-    assert_eq!(calls.len(), 23, "{text}");
+    assert_eq!(calls.len(), 22, "{text}");
     assert!(calls.iter().all(|(_, bytes)| bytes.parse().is_ok_and(|bytes: u32| (1..100_000).contains(&bytes))), "{text}");
 }
 

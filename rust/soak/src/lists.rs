@@ -5,7 +5,7 @@ use crate::list::{Answers, Check, List};
 use model::calls::Calls;
 use model::random::Random;
 use model::session::Fields;
-use model::{boards, join, points, storage};
+use model::{boards, points, storage};
 
 /// Makes a number of random lists, half of them tampered with between the calls and half under the premise of the claims, and counts the
 /// calls by their answers. Each list has a seed of its own, drawn from this one, which a failure names.
@@ -280,23 +280,18 @@ fn misfit(slices: &mut Slices, random: &mut Random) {
 /// Once in so many calls something else writes the maps, so that the claims hold over most lists from end to end.
 const SELDOM_WRITTEN: u64 = 60;
 
-/// Writes the maps as something else than a call may: any numbers into both, or a stored map or a joined one into the pairs. False if that
-/// is turned away, which writes nothing.
+/// Writes the maps as something else than a call may: any numbers into both, or a stored map into the pairs. False if the stored map is
+/// turned away, which writes nothing.
 fn write<S: Calls>(list: &mut List<S>, random: &mut Random) -> bool {
     let (mut map, mut values) = (list.map.clone(), list.values.clone());
-    let done = match random.below(4) {
-        0 => read_back(&list.session(), &mut map, random),
-        1 => join(&list.session(), &mut map, random),
-        _ => {
-            tamper_map(&mut map, random);
-            tamper_values(&mut values, random);
-            true
-        }
-    };
-    if done {
-        list.write(map, values);
+    if random.below(2) == 0 {
+        tamper_map(&mut map, random);
+        tamper_values(&mut values, random);
+    } else if !read_back(&list.session(), &mut map, random) {
+        return false;
     }
-    done
+    list.write(map, values);
+    true
 }
 
 /// Reads bytes back into the pairs: any, or the pairs as they are stored, if they can be, with some bytes changed. Whether it was done.
@@ -312,17 +307,6 @@ fn read_back(session: &Fields, map: &mut [i16], random: &mut Random) -> bool {
         }
     }
     storage::read_back(w, h, &bytes, map) == 0
-}
-
-/// Joins the pairs with the exact map of another sheet or with any map, into the pairs. Whether it was done.
-fn join(session: &Fields, map: &mut [i16], random: &mut Random) -> bool {
-    let (w, h, own) = (session.width, session.height, map.to_vec());
-    let mut other = model::maps::any(map.len() / 2, random);
-    if w > 0 && random.below(2) == 0 {
-        let board = boards::any(w.into(), h.into(), random);
-        other = model::exact::sooner(&board.sheet, board.w, board.h);
-    }
-    join::join(w, h, &own, other.as_flattened(), map) == 0
 }
 
 /// Changes session, maps and sheet now and then.
