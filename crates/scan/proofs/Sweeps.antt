@@ -25,7 +25,7 @@ use Rattle.scan.proofs.Progress.{next, loop_moment, Grows, grows, relax_side}
 
 -- on the way from the right to the left, past column i, the gap grows
 mirrored : (w k i : ℕ) → w - 1 - i ≤ k → k < w - 1 → i < w → gap (w - 1 - (k + 1)) i ≡ gap (w - 1 - k) i + 1
-mirrored w k i past on_Row on =
+mirrored w k i past on_row on =
     let e : w - 1 - (k + 1) + 1 ≡ w - 1 - k = omega arith in
     gap-left (w - 1 - (k + 1)) i (omega arith) ∙ ap (λ (z : ℕ). gap z i + 1) e
 
