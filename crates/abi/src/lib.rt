@@ -1,4 +1,5 @@
-// The calls of the session, of `storage` and of `join`, exported for Rust: the comparison, the benchmark and the pictures of jobs. They ask nothing of their caller.
+// The calls of the session, of `storage` and of `join`, exported for Rust: the comparison, the benchmark and the pictures of jobs. They ask nothing of
+// their caller.
 
 #![tactic(auto)]
 

@@ -155,7 +155,7 @@ pub fn relax(map: &mut [i16], at: usize, known: u64, n: KeyedVector, o: i32) -> 
 // The vector of the labelled pixel p with the step (0, o).
 pub fn ahead(map: &[i16], p: usize, o: i32) -> KeyedVector
     requires inside { Inside p map.now × UnitStep o }
-    requires p_bound { (nat_abs (dx_at map.now p) < max_side) × (nat_abs (dy_at map.now p) < max_side) }
+    requires near { (nat_abs (dx_at map.now p) < max_side) × (nat_abs (dy_at map.now p) < max_side) }
     ensures { Ahead o result map.now p }
 {
     let dx = raster::dx_at(map, p);

@@ -275,7 +275,7 @@ fn solve_row(
     start: &mut [u16],
 )
     requires w_in_bounds { (2 * (base + w) ≤ length map.old) × (w ≤ 2048) }
-    requires w_in_bounds_2 { (w ≤ length ways.old) × ((w ≤ length cost.old) × ((w ≤ length site.old) × (w ≤ length start.old))) }
+    requires lengths { (w ≤ length ways.old) × ((w ≤ length cost.old) × ((w ≤ length site.old) × (w ≤ length start.old))) }
     ensures { Written base 0 w (way_at map.old base) (best_site (row_costs map.old base w) w) map.old map.new }
 {
     copy_row(map, base, w, ways);
@@ -293,7 +293,7 @@ fn solve_rows(
     start: &mut [u16],
 )
     requires w_in_bounds { (2 * (h * w) ≤ length map.old) × (w ≤ 2048) }
-    requires w_in_bounds_2 { (w ≤ length ways.old) × ((w ≤ length cost.old) × ((w ≤ length site.old) × (w ≤ length start.old))) }
+    requires lengths { (w ≤ length ways.old) × ((w ≤ length cost.old) × ((w ≤ length site.old) × (w ≤ length start.old))) }
     ensures { Solved w h map.old map.new }
 {
     let mut rows = h;

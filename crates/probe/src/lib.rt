@@ -131,7 +131,7 @@ struct LookedRows {
 fn look_rows(sheet: &[u8], w: usize, h: usize, y: usize, below: &mut [u16]) -> LookedRows
     requires w_bound { (w ≤ 2048) × ((h ≤ 2048) × (y < h)) }
     requires sheet_len { (length sheet.now ≡ h * w) × (w ≤ length below.old) }
-    requires upcomings { Upcomings (copper_of sheet.now w) w h y below.old }
+    requires upcoming { Upcomings (copper_of sheet.now w) w h y below.old }
     ensures reached { (y ≤ result.row) × ((result.row ≤ h) × LookedTos (copper_of sheet.now w) w h y result.row below.new) }
     ensures counted { result.left ≡ count_below w (λ x. outdated y (get_or below.new x 0)) }
 {
@@ -164,7 +164,7 @@ fn look_column(sheet: &[u8], w: usize, h: usize, x: usize, r: usize) -> u16
 // row r − 1.
 fn settled(sheet: &[u8], w: usize, h: usize, x: usize, y: usize, r: usize, b: u16) -> u16
     requires h_bound { (h ≤ 2048) × ((y ≤ r) × ((r ≤ h) × ((x < w) × (length sheet.now ≡ h * w)))) }
-    requires looked_to { LookedTo (copper_of sheet.now w) h x y r b }
+    requires looked { LookedTo (copper_of sheet.now w) h x y r b }
     ensures { FirstBelow (copper_of sheet.now w) h x y result }
 {
     if y < b as usize {
@@ -176,7 +176,7 @@ fn settled(sheet: &[u8], w: usize, h: usize, x: usize, y: usize, r: usize, b: u1
 // The columns that still look for another copper, one by one; from row y to row r − 1 they have none.
 fn look_columns(sheet: &[u8], w: usize, h: usize, y: usize, r: usize, below: &mut [u16])
     requires h_bound { (h ≤ 2048) × ((y ≤ r) × ((r ≤ h) × ((length sheet.now ≡ h * w) × (w ≤ length below.old)))) }
-    requires looked_tos { LookedTos (copper_of sheet.now w) w h y r below.old }
+    requires looked { LookedTos (copper_of sheet.now w) w h y r below.old }
     ensures { FirstBelows (copper_of sheet.now w) w h y below.new }
 {
     for x in 0..w {
@@ -188,7 +188,7 @@ fn look_columns(sheet: &[u8], w: usize, h: usize, y: usize, r: usize, below: &mu
 fn look_down(sheet: &[u8], w: usize, h: usize, y: usize, below: &mut [u16])
     requires w_bound { (w ≤ 2048) × ((h ≤ 2048) × (y < h)) }
     requires sheet_len { (length sheet.now ≡ h * w) × (w ≤ length below.old) }
-    requires upcomings { Upcomings (copper_of sheet.now w) w h y below.old }
+    requires upcoming { Upcomings (copper_of sheet.now w) w h y below.old }
     ensures { FirstBelows (copper_of sheet.now w) w h y below.new }
 {
     let looked = look_rows(sheet, w, h, y, below);
@@ -253,7 +253,7 @@ fn solve_row(
     requires sheet_len { (length sheet.now ≡ h * w)
         × ((w ≤ length above.old) × ((w ≤ length below.old) × ((w ≤ length ways.old) × (2 * w ≤ length row.old)))) }
     requires line { Line cost.old w site.old start.old }
-    requires last_aboves { LastAboves (copper_of sheet.now w) w from above.old × Upcomings (copper_of sheet.now w) w h y below.old }
+    requires found { LastAboves (copper_of sheet.now w) w from above.old × Upcomings (copper_of sheet.now w) w h y below.old }
     ensures above_left { LastAboves (copper_of sheet.now w) w (y + 1) above.new }
     ensures below_left { Upcomings (copper_of sheet.now w) w h y below.new }
     ensures row_left { RowExact (copper_of sheet.now w) w h y row.new }
@@ -375,7 +375,7 @@ fn probe_points(
     start: &mut [u16],
 ) -> u32
     requires w_bound { (w ≤ 2048) × ((h ≤ 2048) × (length points.now ≡ 2 * length out.old)) }
-    requires points_value { (point_off w h (length out.old) points.now ≡ false) × (rows_fall (length out.old) points.now ≡ false) }
+    requires sorted { (point_off w h (length out.old) points.now ≡ false) × (rows_fall (length out.old) points.now ≡ false) }
     requires sheet_len { (length sheet.now ≡ h * w)
         × ((w ≤ length above.old) × ((w ≤ length below.old) × ((w ≤ length ways.old) × (2 * w ≤ length row.old)))) }
     requires line { Line cost.old w site.old start.old }
@@ -408,7 +408,7 @@ pub fn probe(
 ) -> u32
     requires w_bound { (w ≤ 2048) × (h ≤ 2048) }
     requires sheet_len { (length sheet.now ≡ h * w) × ((scratch_need w ≤ length scratch.old) × (length points.now ≡ 2 * length out.old)) }
-    requires points_value { (point_off w h (length out.old) points.now ≡ false) × (rows_fall (length out.old) points.now ≡ false) }
+    requires sorted { (point_off w h (length out.old) points.now ≡ false) × (rows_fall (length out.old) points.now ≡ false) }
     ensures counted { result ≡ rows_among h (length out.old) points.now }
     ensures out_left { out.new ≡ distances_at (copper_of sheet.now w) w h (length out.old) points.now }
     ensures scratch_left { scratch.new ≡ scratch_left w scratch.old }

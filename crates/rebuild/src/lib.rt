@@ -108,7 +108,7 @@ fn raise_row(
     count: usize,
 )
     requires n_in_bounds { (n ≤ length reach.old) × ((n ≤ 2048) × ((h ≤ 2048) × (t < h))) }
-    requires n_in_bounds_2 { (n ≤ length cost.now) × ((count ≤ length site.now) × (count ≤ length start.now)) }
+    requires lengths { (n ≤ length cost.now) × ((count ≤ length site.now) × (count ≤ length start.now)) }
     requires entries { Entries cost.now n site.now count }
     requires costs { Costs cost.now n }
     ensures { RowRaised t h 0 n (λ x. hit_by cost.now t x (holder site.now start.now count x))

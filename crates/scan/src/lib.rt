@@ -56,7 +56,7 @@ fn leftward(map: &mut [i16], keys: &[u64], w: usize, y: usize)
 
 // 4SED: every pixel of row y from the pixel beside it in the row before, and then from its left neighbour.
 fn from_straight(map: &mut [i16], keys: &mut [u64], w: usize, y: usize, before: usize, o: i32)
-    requires y_nonzero { (y ≢ before) × ((2 * (y * w + w) ≤ length map.old) × (2 * (before * w + w) ≤ length map.old)) }
+    requires rows { (y ≢ before) × ((2 * (y * w + w) ≤ length map.old) × (2 * (before * w + w) ≤ length map.old)) }
     requires unit_step { UnitStep o × (pos y +ℤ o ≡ pos before) }
     requires on_sheet { OnSheet w map.old × (Labelled w before map.old × (w ≤ length keys.old)) }
     ensures written { map.new ≡ rightward w y (from_row w false y before o map.old) }

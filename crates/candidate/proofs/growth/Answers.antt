@@ -68,16 +68,15 @@ less_is v near =
 
 pub returns-then-o-lt0 : goal.returns-then-o-lt0
 returns-then-o-lt0 c =
-    let s = c.before in
-    let v = s.args.v in
-    let n = near_minus v s.requires.0 in
-    let o = step_down s.args.o s.requires.1 (simp (to_z-of_z, s.ranges.o) at (holds c.if-o-lt0.true)) in
-    simp (to_z-of_z, s.ranges.v, twice_fits v s.requires.0, twice_fits_64 v s.requires.0, neg_ℤ-+ℤ v v, more_fits (neg_ℤ v) n, o) (less_is v n, more_far (neg_ℤ v) n)
+    let v = c.args.v in
+    let near = c.requires.0 in
+    let n = near_minus v near in
+    let o = step_down c.args.o c.requires.1 (simp (to_z-of_z, c.ranges.o) at (holds c.if-o-lt0.true)) in
+    simp (to_z-of_z, c.ranges.v, twice_fits v near, twice_fits_64 v near, neg_ℤ-+ℤ v v, more_fits (neg_ℤ v) n, o) (less_is v n, more_far (neg_ℤ v) n)
 
 pub returns-then-o-gt0 : goal.returns-then-o-gt0
 returns-then-o-gt0 c =
-    let s = c.before in
-    let v = s.args.v in
-    let n = s.requires.0 in
-    let o = step_up s.args.o s.requires.1 (simp (to_z-of_z, s.ranges.o) at (holds c.if-o-gt0.true)) in
-    simp (to_z-of_z, s.ranges.v, twice_fits v n, twice_fits_64 v n, more_fits v n, o) ((more_is v n).1, more_far v n)
+    let v = c.args.v in
+    let near = c.requires.0 in
+    let o = step_up c.args.o c.requires.1 (simp (to_z-of_z, c.ranges.o) at (holds c.if-o-gt0.true)) in
+    simp (to_z-of_z, c.ranges.v, twice_fits v near, twice_fits_64 v near, more_fits v near, o) ((more_is v near).1, more_far v near)

@@ -5,10 +5,9 @@ use Rattle.cutter.proofs.leaves_sheet.Goals as goal
 
 pub returns : goal.returns
 returns c =
-    let l = c.before in
-    let s = l.before in
+    let r = c.requires in
     rw (
-      leaving _ _ _ l.step_right.type_inv l.step_right.ensures l.is_leaving-across.ensures,
+      leaving _ _ _ c.step_right.type_inv c.step_right.ensures c.is_leaving-across.ensures,
       leaving _ _ _ c.step_down.type_inv c.step_down.ensures c.is_leaving-down.ensures,
     )
-    (leaves_sheet_lem s.args.c s.args.d s.requires.0 s.requires.1.0 s.requires.1.1 s.args.n)
+    (leaves_sheet_lem c.args.c c.args.d r.0 r.1.0 r.1.1 c.args.n)

@@ -17,7 +17,7 @@ pub turn_to-requires-clause-w_bound : goal.turn_to-requires-clause-w_bound
 turn_to-requires-clause-w_bound c =
     let a = c.args in
     let b = c.requires.w_bound in
-    let p = c.requires.points_value in
+    let p = c.requires.sorted in
     let n = length a.out.now in
     let k = c.loop-k.k in
     let y = c.point_row-y.ensures in
@@ -32,14 +32,14 @@ rows_with-rows-requires c =
 pub distance_at-requires : goal.distance_at-requires
 distance_at-requires c =
     let a = c.args in
-    let o = point_on_sheet a.points.now a.w a.h (length a.out.now) c.loop-k.k c.requires.points_value.0 c.loop-k-test.true in
+    let o = point_on_sheet a.points.now a.w a.h (length a.out.now) c.loop-k.k c.requires.sorted.0 c.loop-k-test.true in
     omega (arith, c.point_column.ensures, o.0, c.turn_to.auto.row, c.loop-k.invariant.1, c.requires.sheet_len)
 
 pub loop-k-preserved : goal.loop-k-preserved
 loop-k-preserved c =
     let a = c.args in
     let b = c.requires.w_bound in
-    let p = c.requires.points_value in
+    let p = c.requires.sorted in
     let n = length a.out.now in
     let k = c.loop-k.k in
     let i = c.loop-k.invariant in

@@ -27,7 +27,7 @@ ahead-mid-requires c =
     let on = row_on_sheet p.sheet c.args.before (omega arith) (omega arith) in
     record {
       inside = (omega arith, simp (to_z-of_z, c.ranges.o) c.requires.unit_step.0);
-      p_bound = near-pixel p.sheet l.x c.args.before (omega arith) on (p.labelled l.x (omega arith));
+      near = near-pixel p.sheet l.x c.args.before (omega arith) on (p.labelled l.x (omega arith));
     }
 
 pub straight-last-requires : goal.straight-last-requires
@@ -44,7 +44,7 @@ loop-x-preserved c =
     let in_before = row_on_sheet p.sheet a.before (omega arith) (omega arith) in
     let at = index a.w l.x a.y in
     let e = ahead-relax c.ahead-mid.ensures (p.labelled l.x (omega arith)) at (pos 0) in (
-      passing_turn a.w false a.y a.before _ c.requires.y_nonzero.0 (simp (to_z-of_z, c.ranges.o) c.requires.unit_step.0) (simp (to_z-of_z, c.ranges.o) c.requires.unit_step.1)
+      passing_turn a.w false a.y a.before _ c.requires.rows.0 (simp (to_z-of_z, c.ranges.o) c.requires.unit_step.0) (simp (to_z-of_z, c.ranges.o) c.requires.unit_step.1)
           l.x (omega arith) p in_y in_before (t.ensures.written ∙ ap (offer_given l.last (negsuc 0) at) e) t.ensures.handed_on,
       omega arith,
       t.auto.map ∙ l.invariant.2,

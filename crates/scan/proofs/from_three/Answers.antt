@@ -44,7 +44,7 @@ ahead-mid-requires c =
     let r = c.requires in
     let sheet = r.on_sheet.0 in
     let n = near-pixel sheet 0 a.before r.w_nonzero.0 (row_on_sheet sheet a.before r.w_nonzero.0 r.w_nonzero.1.1.1) (r.on_sheet.1.0 0 r.w_nonzero.0) in
-    record { inside = (omega (arith, r.w_nonzero.0), simp (to_z-of_z, c.ranges.o) r.unit_step.0); p_bound = rw add-zero at n }
+    record { inside = (omega (arith, r.w_nonzero.0), simp (to_z-of_z, c.ranges.o) r.unit_step.0); near = rw add-zero at n }
 
 pub loop-x-init : goal.loop-x-init
 loop-x-init c =
@@ -67,7 +67,7 @@ ahead-right-requires c =
     let on = row_on_sheet p.sheet c.args.before c.requires.w_nonzero.0 (omega arith) in
     record {
       inside = (omega arith, simp (to_z-of_z, c.ranges.o) c.requires.unit_step.0);
-      p_bound = near-pixel p.sheet (l.x + 1) c.args.before (omega arith) on (p.labelled (l.x + 1) (omega arith));
+      near = near-pixel p.sheet (l.x + 1) c.args.before (omega arith) on (p.labelled (l.x + 1) (omega arith));
     }
 
 pub three-last-requires : goal.three-last-requires

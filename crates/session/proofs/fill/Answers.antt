@@ -4,5 +4,4 @@ use Rattle.session.proofs.fill.Goals as goal
 
 pub fill_rectangle-requires : goal.fill_rectangle-requires
 fill_rectangle-requires c =
-    let t = c.before in
-    let g = fill_granted _ _ _ _ _ _ t.fill_answer-answer.ensures t.if-answer-eq0.true in (g.held, (g.across, g.down))
+    let g = fill_granted _ _ _ _ _ _ c.fill_answer-answer.ensures c.if-answer-eq0.true in (g.held, (g.across, g.down))

@@ -4,4 +4,4 @@ use Rattle.session.proofs.Session.expand.Goals as goal
 
 pub expand-requires : goal.expand-requires
 expand-requires c =
-    let t = c.before in let r = resize_requires (resize_granted _ _ _ _ _ t.resize_answer-answer.ensures t.if-answer-eq0.true) in record { w_bound = r.0; sheet_len = r.1 }
+    let r = resize_requires (resize_granted _ _ _ _ _ c.resize_answer-answer.ensures c.if-answer-eq0.true) in record { w_bound = r.0; sheet_len = r.1 }

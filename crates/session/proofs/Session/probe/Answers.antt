@@ -4,6 +4,6 @@ use Rattle.session.proofs.Session.probe.Goals as goal
 
 pub probe-rows-requires : goal.probe-rows-requires
 probe-rows-requires c =
-    let t = c.before in
-    let g = probe_granted _ _ _ _ _ t.probe_answer-answer.ensures t.if-answer-ne0.false in
-    let l = active-limits t.args.self g.open_sheet in record { w_bound = (l.wide, l.high); sheet_len = (g.held, (g.spare, g.paired)); points_value = (g.on, g.level) }
+    let g = probe_granted _ _ _ _ _ c.probe_answer-answer.ensures c.if-answer-ne0.false in
+    let l = active-limits c.args.self g.open_sheet in
+    record { w_bound = (l.wide, l.high); sheet_len = (g.held, (g.spare, g.paired)); sorted = (g.on, g.level) }

@@ -4,7 +4,4 @@ use Rattle.session.proofs.state.is_sound.Goals as goal
 
 pub returns : goal.returns
 unfolding sound
-returns c =
-    let k = c.before in
-    let m = k.before in
-    rw (m.is_sheet_sound.ensures, m.is_map_sound.ensures, k.is_cutter_sound.ensures, c.is_closest_sound.ensures)
+returns c = rw (c.is_sheet_sound.ensures, c.is_map_sound.ensures, c.is_cutter_sound.ensures, c.is_closest_sound.ensures)
