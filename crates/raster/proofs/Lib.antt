@@ -1,5 +1,4 @@
 -- What the proofs of several functions use.
 pub mod Signed
 pub mod Writing
-pub mod Product
 pub mod Rows

@@ -6,7 +6,8 @@ use Rattle.std.proofs.Math.Bool.{true, false, cond}
 use mathlib.Core.List.{[], ◌∷◌, ◌++◌}
 use Rattle.std.proofs.Common.{arith}
 use borrow.Author.Tests.{ltb-true, eqb-false, not-true}
-use Rattle.raster.specs.Refusal.{Table, first_of}
+use Rattle.raster.specs.declared.refusal.Refusal.{Refusal}
+use Rattle.raster.specs.Refusal.{Table, first_of, number_of}
 use Rattle.raster.specs.Tests.{and_left, and_right}
 
 -- it answers 0: its first condition fails, and the rest of it answers 0
@@ -34,6 +35,10 @@ none-holds [] n e row = refl
 none-holds ((true, number) ∷ rest) n e row = absurd (omega (arith, ltb-true 0 number (and_left (ltb 0 number) _ n)))
 none-holds ((false, number) ∷ rest) n e zero = refl
 none-holds ((false, number) ∷ rest) n e (suc row) = none-holds rest (and_right (ltb 0 number) _ n) e row
+
+-- no reason has the number 0
+pub number_some : (refusal : Refusal) → number_of refusal ≡ 0 → ⊥
+number_some refusal = grind arith
 
 -- ---- a table with one row more
 

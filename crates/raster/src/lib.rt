@@ -3,11 +3,16 @@
 
 #![tactic(auto)]
 
-ghost use Rattle.std.specs.Prelude.{◌≡◌, ◌+◌, ◌*◌, ◌≤◌, eqb, nat_abs, ◌+ℤ◌, length, replicate};
+ghost use Rattle.std.specs.Prelude.{◌≡◌, Bool, ℕ, ◌+◌, ◌*◌, ◌≤◌, ◌<◌, eqb, nat_abs, ◌+ℤ◌, length, replicate};
 ghost use Rattle.raster.specs.Limits.{side};
+ghost use Rattle.raster.specs.Loop.{any_below};
 ghost use Rattle.raster.specs.Vector.{Short, Wide, UnitStep, size, unlabelled};
 ghost use Rattle.raster.specs.Map.{Inside, dx_at, dy_at, size_at, unlabelled_at, put, unmapped, has_copper};
 ghost use Rattle.raster.specs.Sheet.{bare, spanned, filled};
+
+mod refusal; // why a call is refused
+
+pub use refusal::{Refusal, answer};
 
 pub const MARK: i16 = -32768;
 
@@ -25,7 +30,7 @@ pub fn is_side(n: u16) -> bool
 pub fn area(w: u16, h: u16) -> usize
     ensures { result ≡ h * w }
 {
-    (h as usize) * (w as usize)
+    usize::from(h) * usize::from(w)
 }
 
 // How far a number reaches, without its sign.
@@ -33,10 +38,11 @@ pub fn magnitude(z: i32) -> u32
     requires { Wide z }
     ensures { result ≡ nat_abs z }
 {
-    if z < 0 { (0 - z) as u32 } else { z as u32 }
+    z.unsigned_abs()
 }
 
 // The square of the vector's length.
+#[tactic(auto, unfolding(crate::specs::Vector::size))]
 fn size_of(dx: i32, dy: i32) -> u32
     requires { Wide dx × Wide dy }
     ensures { result ≡ size dx dy }
@@ -50,7 +56,8 @@ fn size_of(dx: i32, dy: i32) -> u32
 pub fn is_unlabelled(dx: i32, dy: i32) -> bool
     ensures { result ≡ unlabelled dx dy }
 {
-    (dx == -32768) & (dy == -32768)
+    let mark = i32::from(MARK);
+    (dx == mark) & (dy == mark)
 }
 
 // A component of a neighbour's vector, seen from the pixel.
@@ -66,7 +73,7 @@ pub fn dx_at(map: &[i16], p: usize) -> i32
     requires { Inside p map.now }
     ensures { (result ≡ dx_at map.now p) × Short result }
 {
-    map[2 * p] as i32
+    i32::from(map[2 * p])
 }
 
 // The second component at pixel p.
@@ -74,7 +81,7 @@ pub fn dy_at(map: &[i16], p: usize) -> i32
     requires { Inside p map.now }
     ensures { (result ≡ dy_at map.now p) × Short result }
 {
-    map[2 * p + 1] as i32
+    i32::from(map[2 * p + 1])
 }
 
 // The size at pixel p: at most 2^31, which an unlabelled pixel has and no other.
@@ -94,6 +101,7 @@ pub fn unlabelled_at(map: &[i16], p: usize) -> bool
 }
 
 // Writes the vector (dx, dy) at pixel p.
+#[tactic(auto, unfolding(crate::specs::Map::put))]
 pub fn put_at(map: &mut [i16], p: usize, dx: i32, dy: i32)
     requires inside { Inside p map.old }
     requires short { Short dx × Short dy }
@@ -107,30 +115,36 @@ pub fn put_at(map: &mut [i16], p: usize, dx: i32, dy: i32)
 pub fn clear_map(map: &mut [i16])
     ensures { map.new ≡ unmapped map.old }
 {
-    for i in 0..map.len() {
-        map[i] = MARK;
+    map.fill(MARK);
+}
+
+// Whether a number below n passes the test. All are looked at, so that the compiler looks at several at a time.
+#[tactic(auto, unfolding(crate::specs::Loop::any_below))]
+pub fn any_below<F: Fn(usize) -> bool + Drop>(n: usize, test: F) -> bool
+    requires { (k : ℕ) → k < n → F.pre test k }
+    ensures { (f : ℕ → Bool) → ((k : ℕ) (b : Bool) → k < n → F.post test k b → b ≡ f k) → result ≡ any_below n f }
+{
+    let mut found = false;
+    for k in 0..n {
+        found = test(k) | found;
     }
+    found
 }
 
 // Whether some of the first n pixels has size 0.
+#[tactic(auto, unfolding(crate::specs::Map::has_copper))]
 pub fn has_copper(map: &[i16], n: usize) -> bool
     requires { 2 * n ≤ length map.now }
     ensures { result ≡ has_copper n map.now }
 {
-    let mut found = false;
-    for p in 0..n {
-        found = (size_at(map, p) == 0) | found;
-    }
-    found
+    any_below(n, |p| size_at(map, p) == 0)
 }
 
 // Sets every byte to v.
 pub fn fill(s: &mut [u8], v: u8)
     ensures { s.new ≡ replicate (length s.old) v }
 {
-    for i in 0..s.len() {
-        s[i] = v;
-    }
+    s.fill(v);
 }
 
 // Makes every pixel bare.
@@ -141,6 +155,7 @@ pub fn clear_sheet(sheet: &mut [u8])
 }
 
 // Writes v at n places from `start` on.
+#[tactic(auto, unfolding(crate::specs::Sheet::spanned))]
 pub fn fill_span(sheet: &mut [u8], start: usize, n: usize, v: u8)
     requires { start + n ≤ length sheet.old }
     ensures { sheet.new ≡ spanned start n v sheet.old }
@@ -149,6 +164,7 @@ pub fn fill_span(sheet: &mut [u8], start: usize, n: usize, v: u8)
 }
 
 // Writes v in the rectangle of cols × rows pixels whose upper left one is (x, y), on a sheet of w × h.
+#[tactic(auto, using(crate::specs::SheetLaws::filled_none, crate::specs::SheetLaws::filled_more))]
 pub fn fill_rectangle(
     sheet: &mut [u8],
     w: usize,

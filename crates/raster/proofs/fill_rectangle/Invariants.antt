@@ -1,10 +1,8 @@
 -- `raster::fill_rectangle` meets its contract. The invariant: the sheet is as if the rectangle had the j rows that are written.
 use mathlib.Core.Path.{◌≡◌}
-use Prim.Native.Nat.{◌≤◌}
-use lib.ListN.{length}
 use Rattle.raster.specs.Sheet.{filled}
 use Rattle.raster.proofs.fill_rectangle.Given as goal
 
 abbrev pub invariant-loop-j : goal.invariant-loop-j
 invariant-loop-j l =
-    (l.sheet ≡ filled l.w l.h l.x l.y l.cols l.j l.v l.initial.sheet) × (l.j ≤ l.rows) × (length l.sheet ≡ length l.initial.sheet)
+    l.sheet ≡ filled l.w l.h l.x l.y l.cols l.j l.v l.initial.sheet
