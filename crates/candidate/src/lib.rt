@@ -35,6 +35,7 @@ pub struct KeyedVector {
 }
 
 // The key of the vector (dx, dy).
+#[tactic(auto, unfolding(crate::specs::Key::key, raster::specs::Vector::size))]
 fn key_of(dx: i32, dy: i32) -> u64
     requires { Wide dx × Wide dy }
     ensures { result ≡ key dx dy }
@@ -42,27 +43,14 @@ fn key_of(dx: i32, dy: i32) -> u64
     let x = raster::magnitude(dx);
     let y = raster::magnitude(dy);
     let tie = y * y;
-    (x * x + tie) as u64 * UNIT + tie as u64
+    u64::from(x * x + tie) * UNIT + u64::from(tie)
 }
 
-// One of two numbers.
-fn pick(first: bool, a: i32, b: i32) -> i32
+// One of two values.
+fn pick<T: Copy>(first: bool, a: T, b: T) -> T
     ensures { result ≡ cond first a b }
 {
-    if first {
-        return a;
-    }
-    b
-}
-
-// One of two keys.
-fn pick_key(first: bool, a: u64, b: u64) -> u64
-    ensures { result ≡ cond first a b }
-{
-    if first {
-        return a;
-    }
-    b
+    if first { a } else { b }
 }
 
 // What a step o adds to the square of the component v: 2vo + o², here with 4,096 more, so that it is not negative.
@@ -70,36 +58,33 @@ fn growth(v: i32, o: i32) -> u64
     requires { (nat_abs v ≤ 2048) × UnitStep o }
     ensures { (result + square v ≡ 4096 + square (v +ℤ o)) × (result ≤ 8193) }
 {
-    let twice = (v + v) as i64;
-    if o < 0 {
-        return (4097 - twice) as u64;
-    }
-    if 0 < o {
-        return (4097 + twice) as u64;
-    }
-    4096
+    let v = i64::from(v);
+    let o = i64::from(o);
+    (4096 + (2 * v + o) * o) as u64
 }
 
-// The key of the candidate that c and the step o to the side give, from the key of c.
-fn key_after(c: KeyedVector, o: i32) -> u64
-    requires { Given c × UnitStep o }
-    ensures candidate { is_given c ≡ true → result ≡ key (c.dx +ℤ o) c.dy }
-    ensures none { is_given c ≡ false → no_key ≤ result }
-{
-    c.key + growth(c.dx, o) * UNIT - 4096 * UNIT
-}
+impl KeyedVector {
+    // The key of the candidate that it and the step o to the side give, from its own key.
+    fn key_after(self, o: i32) -> u64
+        requires { Given self × UnitStep o }
+        ensures candidate { is_given self ≡ true → result ≡ key (self.dx +ℤ o) self.dy }
+        ensures none { is_given self ≡ false → no_key ≤ result }
+    {
+        self.key + growth(self.dx, o) * UNIT - 4096 * UNIT
+    }
 
-// What a pixel that holds d holds after the candidate that c and the step o to the side give.
-fn better(d: KeyedVector, c: KeyedVector, o: i32) -> KeyedVector
-    requires { (Keyed d × Given c) × UnitStep o }
-    ensures { Offered d c o result }
-{
-    let key = key_after(c, o);
-    let takes = key < d.key;
-    KeyedVector {
-        dx: pick(takes, c.dx + o, d.dx),
-        dy: pick(takes, c.dy, d.dy),
-        key: pick_key(takes, key, d.key),
+    // What a pixel that holds it holds after the candidate that c and the step o to the side give.
+    fn better(self, c: KeyedVector, o: i32) -> KeyedVector
+        requires { (Keyed self × Given c) × UnitStep o }
+        ensures { Offered self c o result }
+    {
+        let key = c.key_after(o);
+        let takes = key < self.key;
+        KeyedVector {
+            dx: pick(takes, c.dx + o, self.dx),
+            dy: pick(takes, c.dy, self.dy),
+            key: pick(takes, key, self.key),
+        }
     }
 }
 
@@ -141,7 +126,7 @@ pub fn relax(map: &mut [i16], at: usize, known: u64, n: KeyedVector, o: i32) -> 
     if KEY_LIMIT <= n.key {
         return d;
     }
-    let key = key_after(n, o);
+    let key = n.key_after(o);
     if key < d.key {
         let dx = n.dx + o;
         raster::put_at(map, at, dx, n.dy);
@@ -187,8 +172,8 @@ pub fn straight(map: &mut [i16], at: usize, mid: KeyedVector, last: KeyedVector)
     ensures handed_on { AtPixel result map.new at }
 {
     let d = read(map, at);
-    let a = better(d, mid, 0);
-    let b = better(a, last, -1);
+    let a = d.better(mid, 0);
+    let b = a.better(last, -1);
     raster::put_at(map, at, b.dx, b.dy);
     b
 }
@@ -213,10 +198,10 @@ pub fn three(
     ensures handed_on { AtPixel result map.new at }
 {
     let d = read(map, at);
-    let a = better(d, left, -1);
-    let b = better(a, mid, 0);
-    let c = better(b, right, 1);
-    let e = better(c, last, -1);
+    let a = d.better(left, -1);
+    let b = a.better(mid, 0);
+    let c = b.better(right, 1);
+    let e = c.better(last, -1);
     raster::put_at(map, at, e.dx, e.dy);
     e
 }

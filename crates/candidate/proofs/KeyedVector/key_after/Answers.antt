@@ -1,4 +1,4 @@
--- `candidate::key_after` meets its contract: what the step adds to the square of a component is added to the size, and dy² stays. Where there is no vector,
+-- `candidate::KeyedVector::key_after` meets its contract: what the step adds to the square of a component is added to the size, and dy² stays. Where there is no vector,
 -- nothing is taken away, and the key stays too large.
 use mathlib.Core.Path.{◌≡◌, refl, ap}
 use mathlib.Core.Bool.{Bool, true, false}
@@ -14,7 +14,7 @@ use Rattle.candidate.specs.declared.KeyedVector.{KeyedVector}
 use Rattle.candidate.specs.Key.{square, key, no_key, key_limit}
 use Rattle.candidate.specs.Holding.{is_given, Given}
 use Rattle.candidate.proofs.Carried.{given-dx}
-use Rattle.candidate.proofs.key_after.Goals as goal
+use Rattle.candidate.proofs.KeyedVector.key_after.Goals as goal
 
 -- the square of dx is part of the key, which is not above that of no vector
 parts : {c : KeyedVector} → Given c → (4294967296 * square c.dx ≤ c.key) × (c.key ≤ no_key)
