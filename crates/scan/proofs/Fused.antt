@@ -1,4 +1,4 @@
--- A row in one pass: what each pixel takes from the row before, and at once from its left neighbour, as `from_straight` and `from_three` do. It leaves what the
+-- A row in one pass: what each pixel takes from the row before, and at once from its left neighbour, as `from_labelled` of both engines does. It leaves what the
 -- definition leaves, which takes all pixels from the row before first. For a pixel farther right and the sweep up to its left do not look at each other. On the way
 -- it writes the keys of the row.
 -- Assumes nothing.
@@ -10,28 +10,29 @@ use Prim.Native.Nat.{ℕ, zero, suc, ◌+◌, ◌-◌, ◌≤◌, ◌<◌}
 use native.Mathlib.Decide.{dec_lt}
 use native.Mathlib.Omega.{arith}
 use lib.Dec.{ltb}
-use lib.IntN.{ℤ, pos, negsuc, ◌+ℤ◌}
+use lib.IntN.{ℤ, pos, negsuc, nat_abs}
 use lib.ListN.{length, set, length-set}
 use borrow.Author.Tests.{ltb-true, lt-ltb, le-ltb}
 use Rattle.raster.specs.Loop.{ascend}
 use Rattle.raster.specs.Pixels.{index}
 use Rattle.raster.specs.PixelsLaws.{index-one}
-use Rattle.raster.specs.Vector.{UnitStep}
-use Rattle.raster.specs.Map.{unlabelled_at}
+use Rattle.raster.specs.Limits.{max_side}
+use Rattle.raster.specs.Map.{dx_at, dy_at, unlabelled_at}
 use Rattle.raster.specs.Tests.{and_right}
 use Rattle.candidate.specs.declared.KeyedVector.{KeyedVector}
 use Rattle.candidate.specs.Candidate.{relax}
-use Rattle.candidate.specs.OnSheet.{OnSheet, Moment}
+use Rattle.candidate.specs.OnSheet.{Moment}
 use Rattle.candidate.specs.Holding.{AtPixel, is_given, Given, offer_given}
 use Rattle.candidate.proofs.Neighbours.{Unchanged, elsewhere, elsewhere_if, relax_comm}
-use Rattle.candidate.proofs.OnCopper.{on_sheet-later}
+use Rattle.candidate.proofs.OnCopper.{on_sheet-later, near-pixel}
 use Rattle.candidate.proofs.Held.{held-given, held-relax}
 use Rattle.scan.specs.Scan.{from_left, from_right, from_three, from_row, rightward}
-use Rattle.scan.specs.Rows.{Labelled, Keys}
+use Rattle.scan.specs.Rows.{RowOf, Beside, Labelled, Keys}
 use Rattle.scan.proofs.Progress.{onward, next, either, some-within, grows}
-use Rattle.scan.proofs.Sweeps.{to_right}
+use Rattle.scan.proofs.Sweeps.{right_step, to_right}
 use Rattle.scan.proofs.Rows.{three_moment, by_middle}
 use Rattle.scan.proofs.Keys.{keys_next}
+use Rattle.scan.proofs.OnRow.{on_y, on_b, row-later, rows-later}
 use Rattle.scan.proofs.Window.{other_row}
 
 module _ (w : ℕ) (corners : Bool) (y b : ℕ) (o : ℤ) where
@@ -40,7 +41,7 @@ module _ (w : ℕ) (corners : Bool) (y b : ℕ) (o : ℤ) where
   down = from_three w corners y b o
 
   abbrev right : ℕ → List ℤ → List ℤ
-  right k = relax (index w (k + 1) y) (index w k y) (negsuc 0) (pos 0)
+  right = right_step w y
 
   -- the map when the pixels below x have had both
   abbrev pub passed : ℕ → List ℤ → List ℤ
@@ -49,7 +50,8 @@ module _ (w : ℕ) (corners : Bool) (y b : ℕ) (o : ℤ) where
   -- the loop over the pixels: m is the map before pixel x, `last` what the pixel to its left holds, if there is one, and `keys` has the keys up to there
   pub record Passing (m₀ : List ℤ) (x : ℕ) (last : KeyedVector) (m : List ℤ) (keys : List ℕ) : Type 0 where
     pub done : m ≡ passed x m₀
-    pub sheet : OnSheet w m
+    pub row : RowOf w y m
+    pub rows : Beside w y b o m
     pub labelled : Labelled w b m
     pub given : Given last
     pub none : x ≡ 0 → is_given last ≡ false
@@ -57,15 +59,16 @@ module _ (w : ℕ) (corners : Bool) (y b : ℕ) (o : ℤ) where
     pub room : w ≤ length keys
     pub known : Keys w y x keys m
 
-  pub passing_start : {last : KeyedVector} {m : List ℤ} {keys : List ℕ} → OnSheet w m → Labelled w b m → Given last → is_given last ≡ false → w ≤ length keys
-      → Passing m 0 last m keys
+  pub passing_start : {last : KeyedVector} {m : List ℤ} {keys : List ℕ} → RowOf w y m → Beside w y b o m → Labelled w b m → Given last × (is_given last ≡ false)
+      → w ≤ length keys → Passing m 0 last m keys
   unfolding ascend
-  passing_start sheet labelled given absent room = record {
+  passing_start row rows labelled nothing room = record {
     done = refl;
-    sheet = sheet;
+    row = row;
+    rows = rows;
     labelled = labelled;
-    given = given;
-    none = λ e. absent;
+    given = nothing.0;
+    none = λ e. nothing.1;
     behind = λ l. absurd (omega arith);
     room = room;
     known = λ z l. absurd (omega arith);
@@ -75,6 +78,11 @@ module _ (w : ℕ) (corners : Bool) (y b : ℕ) (o : ℤ) where
       → (m ≡ rightward w y (from_row w corners y b o m₀)) × Keys w y w keys m
   unfolding rightward from_row
   passing_end p = (p.done, p.known)
+
+  -- the vectors of the row before are near
+  pub near_before : {last : KeyedVector} {m₀ m : List ℤ} {keys : List ℕ} {x : ℕ} → Passing m₀ x last m keys → (z : ℕ) → z < w
+      → (nat_abs (dx_at m (index w z b)) < max_side) × (nat_abs (dy_at m (index w z b)) < max_side)
+  near_before p z l = near-pixel p.row.sheet z b l (on_b p.row p.rows) (p.labelled z l)
 
   module _ (rows : y ≢ b) where
     -- ---- a pixel farther right and a step of the sweep may change places
@@ -127,17 +135,22 @@ module _ (w : ℕ) (corners : Bool) (y b : ℕ) (o : ℤ) where
 
     -- ---- one turn of the loop
 
-    module _ (unit : UnitStep o) (beside : pos y +ℤ o ≡ pos b) {m₀ m : List ℤ} {keys : List ℕ} {last : KeyedVector} (x : ℕ) (on : x < w) (p : Passing m₀ x last m keys)
-        (in-y : y < p.sheet.height) (in_b : b < p.sheet.height) where
+    module _ {m₀ m : List ℤ} {keys : List ℕ} {last : KeyedVector} {x : ℕ} (p : Passing m₀ x last m keys) (on : x < w) where
       abbrev h : ℕ
-      h = p.sheet.height
+      h = p.row.sheet.height
+
+      in-y : y < h
+      in-y = on_y p.row
+
+      in_b : b < h
+      in_b = on_b p.row p.rows
 
       -- the map after the pixel has had both
       abbrev both : List ℤ
       both = cond (ltb 0 x) (right (x - 1) (down x m)) (down x m)
 
       down_moment : Moment w h m (down x m)
-      down_moment = three_moment w h corners y b in-y in_b o unit beside x on m
+      down_moment = three_moment w h corners y b in-y in_b o p.rows.unit p.rows.step x on m
 
       right_moment : Moment w h (down x m) both
       right_moment = either (ltb 0 x) _ (λ e. next (to_right w h y in-y (x - 1) (let some = ltb-true 0 x e in omega arith)))
@@ -152,7 +165,7 @@ module _ (w : ℕ) (corners : Bool) (y b : ℕ) (o : ℤ) where
               let q = p.behind l in
               let s = down_elsewhere x m (index w (x - 1) y) (λ z. let n = (index-one w (x - 1) y x y (omega arith) on z).0 in omega arith) in
               rw (lt-ltb 0 x l, e)
-              (held-relax (on_sheet-later p.sheet down_moment) (x - 1) y (omega arith) in-y
+              (held-relax (on_sheet-later p.row.sheet down_moment) (x - 1) y (omega arith) in-y
               (record { dx = q.dx ∙ sym s.0; dy = q.dy ∙ sym s.1; keyed = q.keyed }) (index w x y) (negsuc 0))
           go (no l) = rw (le-ltb 0 x (omega arith), p.none (omega arith))
 
@@ -168,8 +181,8 @@ module _ (w : ℕ) (corners : Bool) (y b : ℕ) (o : ℤ) where
       labels : unlabelled_at both (index w x y) ≡ false
       labels =
           let before = some-within m (index w x b) (p.labelled x on) in
-          let here = by_middle w h corners y b in-y in_b o unit beside (λ i j. true) p.sheet.wide x on m p.sheet.ends _ before in
-          ((grows (λ i j. true) w h p.sheet.wide (on_sheet-later p.sheet down_moment).ends right_moment).keeps _ _ here).labelled
+          let here = by_middle w h corners y b in-y in_b o p.rows.unit p.rows.step (λ i j. true) p.row.sheet.wide x on m p.row.sheet.ends _ before in
+          ((grows (λ i j. true) w h p.row.sheet.wide (on_sheet-later p.row.sheet down_moment).ends right_moment).keeps _ _ here).labelled
 
       -- pixels other than x are as they were
       turn_elsewhere : {n : List ℤ} → n ≡ offer_given last (negsuc 0) (index w x y) (down x m) → (q : ℕ) → q ≢ index w x y → Unchanged m n q
@@ -187,9 +200,10 @@ module _ (w : ℕ) (corners : Bool) (y b : ℕ) (o : ℤ) where
           → Passing m₀ (x + 1) r n (set keys x r.key)
       passing_turn {r} {n} e held = record {
         done = e ∙ swept ∙ done_next;
-        sheet = later;
-        labelled = λ z l. ((grows (λ i j. true) w h p.sheet.wide p.sheet.ends now).keeps _ _ (some-within m (index w z b) (p.labelled z l))).labelled;
-        given = (held-given later x y on in-y held (rw (e ∙ swept) labels)).0;
+        row = later;
+        rows = rows-later p.row now p.rows;
+        labelled = λ z l. ((grows (λ i j. true) w h p.row.sheet.wide p.row.sheet.ends now).keeps _ _ (some-within m (index w z b) (p.labelled z l))).labelled;
+        given = (held-given later.sheet x y on (on_y later) held (rw (e ∙ swept) labels)).0;
         none = λ z. absurd (omega arith);
         behind = λ l. let f : x + 1 - 1 ≡ x = omega arith in rw f held;
         room = rw length-set p.room;
@@ -201,5 +215,5 @@ module _ (w : ℕ) (corners : Bool) (y b : ℕ) (o : ℤ) where
           now : Moment w h m n
           now = rw (e ∙ swept) (onward down_moment right_moment)
 
-          later : OnSheet w n
-          later = on_sheet-later p.sheet now
+          later : RowOf w y n
+          later = row-later p.row now

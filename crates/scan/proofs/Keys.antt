@@ -1,7 +1,6 @@
 -- The working row: keys of pixels that stay as they were are still theirs, and one more key may be written.
 -- Assumes nothing.
 use mathlib.Core.Path.{◌≡◌, ◌∙◌}
-use mathlib.Core.Logic.{◌≢◌}
 use mathlib.Core.List.{List}
 use Prim.Native.Nat.{ℕ, ◌+◌, ◌<◌}
 use native.Mathlib.Decide.{dec_lt}
@@ -10,17 +9,11 @@ use lib.IntN.{ℤ}
 use lib.ListN.{length, set}
 use lib.Seq.{get_or-set_same, get_or-set_other}
 use Rattle.raster.specs.Pixels.{index}
-use Rattle.raster.specs.PixelsLaws.{index-one}
 use Rattle.candidate.specs.declared.KeyedVector.{KeyedVector}
-use Rattle.candidate.specs.Candidate.{relax}
 use Rattle.candidate.specs.Holding.{AtPixel}
-use Rattle.candidate.proofs.Neighbours.{Unchanged, elsewhere}
+use Rattle.candidate.proofs.Neighbours.{Unchanged}
 use Rattle.candidate.proofs.Held.{held-key}
 use Rattle.scan.specs.Rows.{Keys}
-
--- a candidate at one pixel of a row leaves the others
-pub others : (w y x : ℕ) → x < w → (from : ℕ) (ox oy : ℤ) (m : List ℤ) (z : ℕ) → z < w → z ≢ x → Unchanged m (relax (index w x y) from ox oy m) (index w z y)
-others w y x on from ox oy m z l n = elsewhere (index w x y) from ox oy m (index w z y) (λ e. n (index-one w z y x y l on e).0)
 
 module _ (w y k : ℕ) (keys : List ℕ) (m n : List ℤ) (known : Keys w y k keys m) (same : (z : ℕ) → z < k → Unchanged m n (index w z y)) where
   pub keys_stay : Keys w y k keys n

@@ -2,6 +2,7 @@
 -- Assumes nothing.
 use mathlib.Core.Path.{◌≡◌, refl, sym, ◌∙◌}
 use mathlib.Core.Logic.{inl, inr}
+use Rattle.std.specs.Prelude.{Option, IfSome}
 use mathlib.Core.Bool.{Bool, true, false, not}
 use mathlib.Core.List.{List}
 use Prim.Native.Nat.{ℕ, ◌+◌, ◌*◌, ◌-◌, ◌≤◌, ◌<◌}
@@ -16,12 +17,14 @@ use Rattle.raster.specs.Pixels.{Mask, index}
 use Rattle.raster.specs.Distance.{gap}
 use Rattle.raster.specs.DistanceLaws.{gap-zero}
 use Rattle.raster.specs.Map.{size_at, unlabelled_at}
-use Rattle.candidate.specs.OnSheet.{OnCopper}
+use Rattle.candidate.specs.OnSheet.{OnCopper, OnSheet}
 use Rattle.scan.specs.Scan.{rightward, leftward}
-use Rattle.scan.specs.Rows.{Level}
+use Rattle.scan.specs.Rows.{RowOf, Beside, Level, entered}
 use Rattle.scan.proofs.Within.{relaxed}
 use Rattle.scan.proofs.Progress.{some-within}
-use Rattle.scan.proofs.Sweeps.{Settled, sweeps_nothing, row_within}
+use Rattle.scan.proofs.Sweeps.{Settled, sweeps_nothing, rightward_moment, leftward_moment, row_within}
+use Rattle.scan.proofs.OnRow.{on_y, row-later}
+use Rattle.scan.proofs.Rows.{entered_moment}
 
 module _ {copper : Mask} {w h : ℕ} (wide : w ≤ max_side) (y : ℕ) (down : y < h) {m : List ℤ} (sound : OnCopper copper w h m) where
   abbrev swept : List ℤ
@@ -51,3 +54,17 @@ module _ {copper : Mask} {w h : ℕ} (wide : w ≤ max_side) (y : ℕ) (down : y
       go false e =
           let bare : (z : ℕ) → z < w → unlabelled_at m (index w z y) ≡ true = λ z l. not-false _ (any_false w (λ i. not (unlabelled_at m (index w i y))) z e l) in
           rw (sweeps_nothing w h y m bare) (bare x across ∙ sym (bare 0 (omega arith)))
+
+-- row y of a scan
+module _ (w : ℕ) (corners : Bool) (y : ℕ) (before : Option ℕ) (o : ℤ) {m : List ℤ} (row : RowOf w y m) (rows : IfSome before (λ b. Beside w y b o m × Level w b m)) where
+  entered-row : RowOf w y (entered w corners y before o m)
+  entered-row = row-later row (entered_moment w corners y o m row before rows)
+
+  pub right-row : RowOf w y (rightward w y (entered w corners y before o m))
+  right-row = row-later entered-row (rightward_moment w entered-row.sheet.height y (on_y entered-row) _)
+
+  pub swept_sheet : OnSheet w (leftward w y (rightward w y (entered w corners y before o m)))
+  swept_sheet = (row-later right-row (leftward_moment w right-row.sheet.height y (on_y right-row) _)).sheet
+
+  pub swept_level : Level w y (leftward w y (rightward w y (entered w corners y before o m)))
+  swept_level = level entered-row.sheet.wide y (on_y entered-row) entered-row.sheet.ends

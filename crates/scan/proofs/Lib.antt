@@ -4,6 +4,7 @@ pub mod Within
 pub mod Seeds
 pub mod Cost
 pub mod Progress
+pub mod OnRow
 pub mod Sweeps
 pub mod Level
 pub mod Rows

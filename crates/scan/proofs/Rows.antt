@@ -3,6 +3,7 @@
 -- Assumes nothing.
 use mathlib.Core.Path.{◌≡◌, refl, ap, subst}
 use mathlib.Core.Logic.{inl, inr, ⊎_elim}
+use Rattle.std.specs.Prelude.{Option, None, Some, IfSome}
 use mathlib.Core.Bool.{Bool, true, false, cond, ◌&&◌}
 use mathlib.Core.List.{List}
 use Prim.Native.Nat.{ℕ, zero, suc, ◌+◌, ◌-◌, ◌≤◌, ◌<◌}
@@ -21,12 +22,14 @@ use Rattle.raster.specs.VectorLaws.{step_back, step-none}
 use Rattle.raster.specs.Map.{unlabelled_at}
 use Rattle.raster.specs.Tests.{and_right}
 use Rattle.candidate.specs.Candidate.{relax}
-use Rattle.candidate.specs.OnSheet.{OnCopper, Hop, Moment}
-use Rattle.scan.specs.Scan.{from_left, from_right, from_three, from_row, from_above, from_below}
+use Rattle.candidate.specs.OnSheet.{OnCopper, Hop, Moment, start}
+use Rattle.scan.specs.Scan.{rightward, leftward, from_left, from_right, from_three, from_row}
+use Rattle.scan.specs.Rows.{RowOf, Beside, Level, entered}
 use Rattle.scan.proofs.Within.{Within, relaxed}
 use Rattle.scan.proofs.Cost.{Way, here, straight, corner, side}
 use Rattle.scan.proofs.Progress.{onward, next, either, loop_moment, Grows, grows, relax_side, relax_corner}
 use Rattle.scan.proofs.Sweeps.{Settled}
+use Rattle.scan.proofs.OnRow.{on_y, on_b}
 
 -- one place back
 pub one-back : (k : ℕ) → 0 < k → pos k +ℤ negsuc 0 ≡ pos (k - 1)
@@ -155,14 +158,15 @@ module _ (w h : ℕ) (corners : Bool) (y b : ℕ) (down : y < h) (down' : b < h)
       unfolding from_row
       from_row_settles m sound before = some_settle w (omega arith) m sound before
 
--- ---- from above and from below, if there is a row
+-- ---- from the row before, if there is one
 
-module _ (w H : ℕ) (corners : Bool) (y : ℕ) (on : y < H) (m : List ℤ) where
-  pub above_moment : Moment w H m (from_above w corners y m)
-  above_moment =
-      either (ltb 0 y) _
-      (λ e. let some = ltb-true 0 y e in from_row_moment w H corners y (y - 1) on (omega arith) (negsuc 0) (omega arith) (one-back y some) m)
+module _ (w : ℕ) (corners : Bool) (y : ℕ) (o : ℤ) (m : List ℤ) where
+  pub entered_moment : (row : RowOf w y m) (before : Option ℕ) → IfSome before (λ b. Beside w y b o m × Level w b m) → Moment w row.sheet.height m (entered w corners y before o m)
+  entered_moment row None r = start
+  entered_moment row (Some b) r = from_row_moment w row.sheet.height corners y b (on_y row) (on_b row r.0) o r.0.unit r.0.step m
 
-  pub below_moment : (h : ℕ) → h ≤ H → Moment w H m (from_below w corners h y m)
-  below_moment h l =
-      either (ltb (y + 1) h) _ (λ e. let some = ltb-true (y + 1) h e in from_row_moment w H corners y (y + 1) on (omega arith) (pos 1) (omega arith) refl m)
+  -- the row before is b if a test holds
+  pub swept_if : (t : Bool) (b : ℕ) {before : Option ℕ} {n : List ℤ} → before ≡ cond t (Some b) None → n ≡ leftward w y (rightward w y (entered w corners y before o m))
+      → n ≡ leftward w y (rightward w y (cond t (from_row w corners y b o m) m))
+  swept_if true b e written = rw e at written
+  swept_if false b e written = rw e at written

@@ -3,13 +3,14 @@
 use mathlib.Core.Path.{◌≡◌, refl, ap, ◌∙◌}
 use mathlib.Core.Bool.{Bool, true, false, cond, true≢false}
 use mathlib.Core.List.{List, [], ◌∷◌}
-use Prim.Native.Nat.{ℕ, zero, suc, ◌+◌, ◌*◌, ◌<◌}
+use Prim.Native.Nat.{ℕ, zero, suc, ◌+◌, ◌*◌, ◌≤◌, ◌<◌}
 use native.Mathlib.Nat.{le_of_suc-le-suc, not-suc-le-zero}
 use native.Mathlib.Omega.{arith}
 use lib.Dec.{eqb}
-use lib.IntN.{pos}
+use lib.IntN.{ℤ, pos}
 use lib.ListN.{length, get_or}
 use borrow.Author.Tests.{not-true}
+use Rattle.raster.specs.Limits.{max_side}
 use Rattle.raster.specs.Pixels.{index}
 use Rattle.raster.specs.PixelsLaws.{index-inside}
 use Rattle.raster.specs.Sheet.{copper_of}
@@ -17,7 +18,9 @@ use Rattle.raster.specs.Vector.{mark, size, unlabelled, Target}
 use Rattle.raster.specs.VectorLaws.{ends-here}
 use Rattle.raster.specs.Map.{dx_at, dy_at, unlabelled_at}
 use Rattle.candidate.specs.OnSheet.{OnCopper}
+use Rattle.candidate.proofs.OnCopper.{ends-on_sheet}
 use Rattle.scan.specs.Scan.{seed, seeds}
+use Rattle.scan.specs.Rows.{RowsOf}
 use Rattle.scan.proofs.Within.{Within}
 
 pub seeds-length : (s : List ℕ) → length (seeds s) ≡ 2 * length s
@@ -56,3 +59,6 @@ module _ (w h : ℕ) (sheet : List ℕ) (whole : length sheet ≡ h * w) where
 
   pub seeds-on-copper : OnCopper (copper_of sheet w) w h (seeds sheet)
   seeds-on-copper = record { long = seeds-length sheet ∙ ap (λ (n : ℕ). 2 * n) whole; target = seed_target }
+
+  pub seeds_rows : 0 < w → w ≤ max_side → h ≤ max_side → {m : List ℤ} → length m ≡ 2 * (h * w) → m ≡ seeds sheet → RowsOf w h m
+  seeds_rows some wide tall long e = record { some = some; inside = omega arith; sheet = rw e (ends-on_sheet wide tall seeds-on-copper) }

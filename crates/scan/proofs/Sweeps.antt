@@ -39,6 +39,14 @@ pub record Paid (i : ℕ) (K : ℕ → ℕ) (x : ℕ) : Type 0 where
 abbrev pub Settled : (w y i : ℕ) (K : ℕ → ℕ) → List ℤ → (x : ℕ) → Type 0
 Settled w y i K m x = Within m (index w x y) (K (gap x i)) ⊎ Paid i K x
 
+module _ (w y : ℕ) where
+  -- a pixel from its left neighbour, and one from its right neighbour
+  abbrev pub right_step : ℕ → List ℤ → List ℤ
+  right_step x = relax (index w (x + 1) y) (index w x y) (negsuc 0) (pos 0)
+
+  abbrev pub left_step : ℕ → List ℤ → List ℤ
+  left_step x = relax (index w x y) (index w (x + 1) y) (pos 1) (pos 0)
+
 module _ (w h y : ℕ) where
   -- ---- along a path of columns c 0, c 1, .., each from the one before
 

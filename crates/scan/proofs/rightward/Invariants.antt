@@ -1,25 +1,17 @@
--- `scan::rightward` meets its contract. The invariant: the map is what x steps make of the one at entry, its vectors end on the sheet, `last` is the vector at
--- pixel x, and `keys` has the keys up to there.
+-- The map is what the steps up to pixel x make of the one at entry, `last` is the vector of the pixel before x, and `keys` has the keys up to there.
 use mathlib.Core.Path.{◌≡◌}
-use mathlib.Core.List.{List}
-use Prim.Native.Nat.{ℕ, ◌+◌, ◌-◌, ◌≤◌}
-use lib.IntN.{ℤ, pos, negsuc}
-use lib.ListN.{length}
+use Prim.Native.Nat.{◌-◌}
 use Rattle.raster.specs.Loop.{ascend}
 use Rattle.raster.specs.Pixels.{index}
-use Rattle.candidate.specs.Candidate.{relax}
-use Rattle.candidate.specs.OnSheet.{OnSheet}
 use Rattle.candidate.specs.Holding.{AtPixel}
-use Rattle.scan.specs.Rows.{Keys}
+use Rattle.scan.specs.Rows.{RowOf, Keys}
+use Rattle.scan.proofs.Sweeps.{right_step}
 use Rattle.scan.proofs.rightward.Given as goal
 
-abbrev step : (w y x : ℕ) → List ℤ → List ℤ
-step w y x = relax (index w (x + 1) y) (index w x y) (negsuc 0) (pos 0)
-
 abbrev pub invariant-loop-x : goal.invariant-loop-x
-invariant-loop-x l =
-    (l.map ≡ ascend (step l.w l.y) l.x l.initial.map) × (l.x ≤ l.w - 1) × (length l.map ≡ length l.initial.map) × AtPixel l.last l.map (index l.w l.x l.y) × OnSheet l.w l.map
-    × (length l.keys ≡ length l.initial.keys) × Keys l.w l.y (l.x + 1) l.keys l.map
-
-abbrev pub decreases-loop-x : goal.decreases-loop-x
-decreases-loop-x l = l.w - l.x
+invariant-loop-x l = record {
+  done : l.map ≡ ascend (right_step l.w l.y) (l.x - 1) l.initial.map;
+  row : RowOf l.w l.y l.map;
+  held : AtPixel l.last l.map (index l.w (l.x - 1) l.y);
+  known : Keys l.w l.y l.x l.keys.of l.map;
+}
