@@ -10,23 +10,25 @@ ghost use Rattle.raster.specs.Sheet.{copper_of};
 ghost use Rattle.columns.specs.Column.{farther, up, shorter, way_of, is_zero, EveryPixel};
 ghost use Rattle.columns.specs.Passes.{Room, Spread, shortened};
 
+use raster::MARK;
+
 // One step farther than v, or 0 on copper; −1 stays.
 fn step(copper: bool, v: i16) -> i16
     requires { Room v }
     ensures { result ≡ farther copper v }
 {
     if copper {
-        return 0;
+        0
+    } else if v < 0 {
+        -1
+    } else {
+        v + 1
     }
-    if v < 0 {
-        return -1;
-    }
-    v + 1
 }
 
 // The row that starts at `base`, downwards: `near` has the ways upwards of the row above, then those of this row, which are written to `ways` too.
-fn row_down(sheet: &[u8], ways: &mut [i16], near: &mut [i16], base: usize, w: usize)
-    requires w_in_bounds { (base + w ≤ length sheet.now) × ((base + w ≤ length ways.old) × (w ≤ length near.old)) }
+fn row_down(sheet: &[u8], ways: &mut [i16], near: &mut [i16; 2048], base: usize, w: usize)
+    requires w_in_bounds { (w ≤ 2048) × ((base + w ≤ length sheet.now) × (base + w ≤ length ways.old)) }
     requires by_index { (x : ℕ) → x < w → Room (get_or near.old x (pos 0)) }
     ensures { Spread base w (λ x. not (eqb (get_or sheet.now (base + x) 0) 0)) (λ x v. v)
         ways.old near.old ways.new near.new }
@@ -38,24 +40,15 @@ fn row_down(sheet: &[u8], ways: &mut [i16], near: &mut [i16], base: usize, w: us
     }
 }
 
-// All rows from the top.
-fn rows_down(sheet: &[u8], ways: &mut [i16], near: &mut [i16], w: usize, h: usize)
-    requires h_bound { (h ≤ 2048) × ((length sheet.now ≡ h * w) × ((h * w ≤ length ways.old) × (w ≤ length near.old))) }
-    requires by_index { (x : ℕ) → x < w → get_or near.old x (pos 0) ≡ negsuc 0 }
-    ensures { EveryPixel w h (up (copper_of sheet.now w)) ways.old ways.new }
-{
-    for y in 0..h {
-        row_down(sheet, ways, near, y * w, w);
-    }
-}
-
-// The ways upwards of all pixels.
+// The ways upwards of all pixels. There is no copper above the first row.
 fn pass_down(sheet: &[u8], ways: &mut [i16], w: usize, h: usize)
     requires { (w ≤ 2048) × ((h ≤ 2048) × ((length sheet.now ≡ h * w) × (h * w ≤ length ways.old))) }
     ensures { EveryPixel w h (up (copper_of sheet.now w)) ways.old ways.new }
 {
     let mut above = [-1i16; 2048];
-    rows_down(sheet, ways, &mut above, w, h);
+    for y in 0..h {
+        row_down(sheet, ways, &mut above, y * w, w);
+    }
 }
 
 // The shorter of two ways as a component, among equals upwards; −1 says that there is none.
@@ -63,23 +56,18 @@ pub fn shorter_of(u: i16, d: i16) -> i16
     ensures { result ≡ shorter u d }
 {
     if u < 0 {
-        if d < 0 {
-            return -32768;
-        }
-        return d;
+        if d < 0 { MARK } else { d }
+    } else if 0 <= d && d < u {
+        d
+    } else {
+        -u
     }
-    if d >= 0 {
-        if d < u {
-            return d;
-        }
-    }
-    0 - u
 }
 
 // The row that starts at `base`, upwards: `near` has the ways downwards of the row below, then those of this row, and `ways` goes from the ways upwards
 // to the shorter ones. Copper is where the way upwards is 0.
-fn row_up(ways: &mut [i16], near: &mut [i16], base: usize, w: usize)
-    requires w_in_bounds { (base + w ≤ length ways.old) × (w ≤ length near.old) }
+fn row_up(ways: &mut [i16], near: &mut [i16; 2048], base: usize, w: usize)
+    requires w_in_bounds { (w ≤ 2048) × (base + w ≤ length ways.old) }
     requires by_index { (x : ℕ) → x < w → Room (get_or near.old x (pos 0)) }
     ensures { Spread base w (λ x. is_zero (get_or ways.old (base + x) (pos 0)))
         (λ x v. shorter (get_or ways.old (base + x) (pos 0)) v)
@@ -93,26 +81,15 @@ fn row_up(ways: &mut [i16], near: &mut [i16], base: usize, w: usize)
     }
 }
 
-// All rows from the bottom.
-fn rows_up(ways: &mut [i16], near: &mut [i16], w: usize, h: usize)
-    requires h_bound { (h ≤ 2048) × ((h * w ≤ length ways.old) × (w ≤ length near.old)) }
-    requires by_index { (x : ℕ) → x < w → get_or near.old x (pos 0) ≡ negsuc 0 }
-    ensures { EveryPixel w h (shortened ways.old w h) ways.old ways.new }
-{
-    let mut y = h;
-    while 0 < y {
-        y -= 1;
-        row_up(ways, near, y * w, w);
-    }
-}
-
-// The shorter ways of all pixels, from the ways upwards.
+// The shorter ways of all pixels, from the ways upwards. There is no copper below the last row.
 fn pass_up(ways: &mut [i16], w: usize, h: usize)
     requires { (w ≤ 2048) × ((h ≤ 2048) × (h * w ≤ length ways.old)) }
     ensures { EveryPixel w h (shortened ways.old w h) ways.old ways.new }
 {
     let mut below = [-1i16; 2048];
-    rows_up(ways, &mut below, w, h);
+    for y in (0..h).rev() {
+        row_up(ways, &mut below, y * w, w);
+    }
 }
 
 // The way of every pixel to the nearest copper of its column: −32,768 where the column has none.
