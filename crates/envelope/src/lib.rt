@@ -10,59 +10,27 @@
 
 #![tactic(auto)]
 
-ghost use Rattle.std.specs.Prelude.{◌≡◌, true, ◌+◌, ◌-◌, ◌*◌, ◌/◌, ◌<◌, ◌≤◌, length, get_or};
+ghost use Rattle.std.specs.Prelude.{◌≡◌, true, ◌+◌, ◌-◌, ◌*◌, ◌/◌, ◌<◌, ◌≤◌, length, get_or, replicate};
 ghost use Rattle.envelope.specs.Best.{Site, Line};
 ghost use Rattle.envelope.specs.Stack.{Envelope};
 ghost use Rattle.envelope.specs.Hull.{height_of, above_chord, crossing, Bare, Hull, Popped, Started};
 
-// Two places multiplied.
-fn times(a: usize, b: usize) -> usize
-    requires { (a < 2048) × (b < 2048) }
-    ensures { (result ≡ a * b) × (result < 4194304) }
-{
-    a * b
-}
-
-// A height times a distance on the line.
-fn scaled(v: usize, d: usize) -> usize
-    requires { (v < 4299161600) × (d < 2048) }
-    ensures { (result ≡ v * d) × (result < 8804682956800) }
-{
-    v * d
-}
-
-// An element of a working slice.
-pub fn element(s: &[u16], i: usize) -> usize
-    requires { i < length s.now }
-    ensures { result ≡ get_or s.now i 0 }
-{
-    s[i] as usize
-}
-
-// The i-th cost.
-pub fn cost_at(s: &[u32], i: usize) -> usize
-    requires { i < length s.now }
-    ensures { (result ≡ get_or s.now i 0) × (result < 4294967296) }
-{
-    s[i] as usize
-}
-
 // The height of the point of the place k.
+#[tactic(auto, unfolding(crate::specs::Hull::height_of))]
 fn height(cost: &[u32], k: usize) -> usize
     requires { (k < 2048) × (k < length cost.now) }
     ensures { (result ≡ height_of cost.now k) × (result < 4299161600) }
 {
-    times(k, k) + cost_at(cost, k)
+    k * k + cost[k] as usize
 }
 
 // Whether the point of b lies on or above the line through those of a and k.
+#[tactic(auto, unfolding(crate::specs::Hull::above_chord))]
 fn lies_above(cost: &[u32], a: usize, b: usize, k: usize) -> bool
     requires { (a < b) × ((b < k) × ((k < 2048) × (k < length cost.now))) }
     ensures { result ≡ above_chord cost.now a b k }
 {
-    let left = scaled(height(cost, a), k - b);
-    let right = scaled(height(cost, k), b - a);
-    right + left <= scaled(height(cost, b), k - a)
+    height(cost, k) * (b - a) + height(cost, a) * (k - b) <= height(cost, b) * (k - a)
 }
 
 // Takes off the corners that are none once the site k has come; the number of those left. `top` is the site of the last.
@@ -72,18 +40,15 @@ fn popped(cost: &[u32], n: usize, k: usize, site: &[u16], count: usize, top: usi
     requires k_lt_n { (k < n) × (Site cost.now k × (0 < count → top ≡ get_or site.now (count - 1) 0)) }
     ensures { Popped cost.now k site.now count result }
 {
-    let mut c = count;
     let mut b = top;
-    while 1 < c {
-        let a = element(site, c - 2);
-        if lies_above(cost, a, b, k) {
-            c -= 1;
-            b = a;
-        } else {
-            return c;
+    for c in (1..count).rev() {
+        let a = usize::from(site[c - 1]);
+        if !lies_above(cost, a, b, k) {
+            return c + 1;
         }
+        b = a;
     }
-    if c == 0 {
+    if count == 0 {
         return 0;
     }
     if height(cost, k) < height(cost, b) {
@@ -105,24 +70,14 @@ fn push(cost: &[u32], n: usize, k: usize, site: &mut [u16], count: usize, top: u
     c + 1
 }
 
-// Whether places that had no site so far still have none with the cost g.
-fn still_bare(bare: bool, g: u32) -> bool
-    ensures { result ≡ true → (bare ≡ true) × (4294967295 ≤ g) }
-{
-    if g < 4294967295 {
-        return false;
-    }
-    bare
-}
-
 // Whether none of the 32 places from k on is a site. No jump out of the loop, so that they are looked at all at once.
 fn is_bare(cost: &[u32], k: usize) -> bool
     requires { k + 32 ≤ length cost.now }
     ensures { result ≡ true → Bare cost.now k (k + 32) }
 {
     let mut bare = true;
-    for i in 0..32 {
-        bare = still_bare(bare, cost[k + i]);
+    for g in &cost[k..k + 32] {
+        bare &= *g == u32::MAX;
     }
     bare
 }
@@ -135,15 +90,12 @@ fn skipped(cost: &[u32], n: usize, k: usize) -> usize
     if k % 32 != 0 {
         return k;
     }
-    let mut x = k;
-    while x + 32 <= n {
-        if is_bare(cost, x) {
-            x += 32;
-        } else {
+    for x in (k..n).step_by(32) {
+        if x + 32 > n || !is_bare(cost, x) {
             return x;
         }
     }
-    x
+    n
 }
 
 // The hull of all sites; the number of corners.
@@ -151,11 +103,11 @@ fn hull(cost: &[u32], n: usize, site: &mut [u16]) -> usize
     requires { (n ≤ 2048) × ((n ≤ length cost.now) × (n ≤ length site.old)) }
     ensures { Hull cost.now n site.new result }
 {
-    let mut count: usize = 0;
-    let mut top: usize = 0;
-    let mut k: usize = 0;
+    let mut count = 0;
+    let mut top = 0;
+    let mut k = 0;
     while k < n {
-        if cost_at(cost, k) < 4294967295 {
+        if cost[k] < u32::MAX {
             count = push(cost, n, k, site, count, top);
             top = k;
             k += 1;
@@ -175,13 +127,14 @@ fn cross(s: usize, u: usize, k: usize, v: usize) -> usize
 }
 
 // The first place that entry j + 1 holds before entry j.
+#[tactic(auto, unfolding(crate::specs::Hull::crossing))]
 fn start_of(cost: &[u32], n: usize, site: &[u16], count: usize, j: usize) -> usize
     requires n_bound { (n ≤ 2048) × ((n ≤ length cost.now) × (n ≤ length site.now)) }
     requires hull { Hull cost.now n site.now count × (j + 1 < count) }
     ensures { result ≡ crossing cost.now (get_or site.now j 0) (get_or site.now (j + 1) 0) }
 {
-    let s = element(site, j);
-    let k = element(site, j + 1);
+    let s = usize::from(site[j]);
+    let k = usize::from(site[j + 1]);
     cross(s, height(cost, s), k, height(cost, k))
 }
 
@@ -195,14 +148,12 @@ fn starts(cost: &[u32], n: usize, site: &[u16], start: &mut [u16], count: usize)
         return 0;
     }
     start[0] = 0;
-    let mut j: usize = 1;
-    while j < count {
+    for j in 1..count {
         let f = start_of(cost, n, site, count, j - 1);
         if f >= n {
             return j;
         }
         start[j] = f as u16;
-        j += 1;
     }
     count
 }
@@ -217,4 +168,35 @@ pub fn build(cost: &[u32], n: usize, site: &mut [u16], start: &mut [u16]) -> usi
 {
     let count = hull(cost, n, site);
     starts(cost, n, site, start, count)
+}
+
+// What a line is worked out in: what its places cost, and the stack of entries.
+#[derive(Drop)]
+pub struct WorkingRows {
+    pub cost: [u32; 2048],
+    pub site: [u16; 2048],
+    pub start: [u16; 2048],
+}
+
+impl WorkingRows {
+    // All numbers 0.
+    pub fn new() -> WorkingRows
+        ensures cost { result.cost ≡ replicate 2048 0 }
+        ensures stack { (result.site ≡ replicate 2048 0) × (result.start ≡ replicate 2048 0) }
+    {
+        WorkingRows {
+            cost: [0; 2048],
+            site: [0; 2048],
+            start: [0; 2048],
+        }
+    }
+
+    // The envelope of all sites among the first n places, whose costs stay; the number of entries.
+    pub fn build(&mut self, n: usize) -> usize
+        requires { n ≤ 2048 }
+        ensures costs_kept { self.new.cost ≡ self.old.cost }
+        ensures built { Envelope self.new.cost n self.new.site self.new.start result }
+    {
+        build(&self.cost, n, &mut self.site, &mut self.start)
+    }
 }

@@ -4,7 +4,6 @@ pub mod Search
 pub mod Theorems
 pub mod Columns
 pub mod Solved
-pub mod Numbers
 pub mod Runs
 pub mod Prices
 pub mod Split

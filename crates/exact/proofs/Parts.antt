@@ -3,29 +3,19 @@
 use mathlib.Core.Path.{◌≡◌, refl, sym, ap, ◌∙◌}
 use mathlib.Core.Logic.{inl, inr}
 use mathlib.Core.List.{List}
-use Prim.Native.Nat.{ℕ, ◌+◌, ◌-◌, ◌<◌, ◌≤◌}
+use Prim.Native.Nat.{ℕ, ◌+◌, ◌-◌, ◌<◌, ◌≤◌, min}
 use native.Mathlib.Decide.{dec_lt}
 use native.Mathlib.Omega.{arith}
 use lib.IntN.{ℤ, pos, neg_ℤ, ◌+ℤ◌, ◌-ℤ◌, +ℤ_assoc, neg_ℤ-+ℤ, +ℤ-neg_ℤ_cancel}
-use lib.ListN.{get_or, length}
+use lib.ListN.{get_or}
 use Rattle.raster.specs.Map.{dx_at, dy_at}
-use Rattle.envelope.specs.Best.{best_site, Line}
+use Rattle.envelope.specs.Best.{best_site}
 use Rattle.exact.specs.Rows.{way_cost, costs_of, across, site_way, Written, part, CopperRun, CopperEnd, Next}
 use Rattle.exact.proofs.Prices.{costs-at, priced-best}
 use Rattle.exact.proofs.Runs.{across_site, along_site, run_none, run_same, run_over}
 use Rattle.exact.proofs.Split.{copper-each, Part, part_at, Same, best_part, best-copper}
 
 -- ---- a part
-
--- a line up to an earlier end, in working slices of the same length
-pub line_to : {G G' : List ℕ} {n hi : ℕ} {site start site' start' : List ℕ} → Line G n site start → hi ≤ n
-    → length G' ≡ length G → length site' ≡ length site → length start' ≡ length start → Line G' hi site' start'
-line_to l h k i j = record {
-  short = omega (arith, l.short);
-  costs = omega (arith, l.costs);
-  sites = omega (arith, l.sites);
-  starts = omega (arith, l.starts);
-}
 
 -- the way from column to column is the same in the part and in the row
 way_same : (lo b x : ℕ) → pos (lo + b) -ℤ pos (lo + x) ≡ pos b -ℤ pos x
@@ -96,7 +86,7 @@ copper_solved {w = w} ways few c r = run_same r (λ x i j.
 -- a part, and the copper after it
 pub next_solved : {base w lo done x hi e : ℕ} (ways : List ℤ) {m n o : List ℤ} → w ≤ 2048
     → lo ≤ done → done < w → (0 < lo → get_or ways lo (pos 0) ≡ pos 0)
-    → CopperRun ways done w x → hi ≡ x + 1 - (x + 1 - w)
+    → CopperRun ways done w x → hi ≡ min (x + 1) w
     → Written (base + lo) 0 (hi - lo) (λ b. get_or (part lo hi ways) b (pos 0)) (best_site (costs_of (part lo hi ways) (hi - lo)) (hi - lo)) m n
     → CopperEnd ways x w e → Written base x e (λ b. pos 0) (λ z. z) n o → Next base w lo done ways m e o
 next_solved {base} {w} {lo} {done} {x} {hi} {e} ways few behind more left run ends part c copper = record {

@@ -1,12 +1,16 @@
--- The runs of a row: how one starts, one pixel more, how one ends, and two that meet or overlap.
+-- The runs of a row: how one starts, one pixel more, one that is a fill of the map, and two that meet or overlap.
 -- Assumes nothing.
-use mathlib.Core.Path.{◌≡◌, refl, sym, ◌∙◌}
+use mathlib.Core.Path.{◌≡◌, refl, sym, ap, ◌∙◌}
 use mathlib.Core.Logic.{◌≢◌}
-use mathlib.Core.List.{List}
-use Prim.Native.Nat.{ℕ, ◌+◌, ◌<◌, ◌≤◌}
+use mathlib.Core.List.{List, ◌++◌}
+use Prim.Native.Nat.{ℕ, ◌+◌, ◌-◌, ◌*◌, ◌<◌, ◌≤◌}
 use native.Mathlib.Decide.{dec_lt, ℕ_discrete}
 use native.Mathlib.Omega.{arith}
 use lib.IntN.{ℤ, pos, ◌-ℤ◌, +ℤ_invr}
+use lib.ListN.{length, get_or, take, drop, replicate, get_or-append, length-append, length-drop, length-replicate}
+use lib.Seq.{get_or-take, get_or-drop, get_or-append-add, length-take-le}
+use borrow.Rule.Slice.PartMut.{put_mid}
+use Rattle.std.proofs.lemmas.List.{get_or-replicate}
 use borrow.Author.Tests.{ne_eqb}
 use Rattle.raster.specs.Map.{Inside, dx_at, dy_at, put}
 use Rattle.raster.specs.MapLaws.{put-length, put-dx, put-dy, put-dx-other, put-dy-other}
@@ -32,6 +36,43 @@ chain p q = (p.0 ∙ q.0, p.1 ∙ q.1)
 -- one pixel is written, and the others are left alone
 put_other : (p : ℕ) (dx dy : ℤ) (m : List ℤ) (q : ℕ) → q ≢ p → (dx_at (put p dx dy m) q ≡ dx_at m q) × (dy_at (put p dx dy m) q ≡ dy_at m q)
 put_other p dx dy m q n = (put-dx-other p dx dy m q n, put-dy-other p dx dy m q n)
+
+-- ---- a list, k of whose numbers from a on are set to z
+
+module _ (a k : ℕ) (z : ℤ) (m : List ℤ) (room : a + k ≤ length m) where
+  abbrev spread : List ℤ
+  spread = take a m ++ (replicate k z ++ drop k (drop a m))
+
+  front : length (take a m) ≡ a
+  front = length-take-le a m (omega arith)
+
+  spread-long : length spread ≡ length m
+  spread-long = simp (length-append, length-replicate, length-drop) (omega (arith, front))
+
+  before : (i : ℕ) → i < a → get_or spread i (pos 0) ≡ get_or m i (pos 0)
+  before i l = get_or-append (take a m) _ (pos 0) i (omega (arith, front)) ∙ get_or-take a m i (pos 0) l
+
+  past : (j : ℕ) → get_or spread (a + j) (pos 0) ≡ get_or (replicate k z ++ drop k (drop a m)) j (pos 0)
+  past j = ap (λ (t : ℕ). get_or spread (t + j) (pos 0)) (sym front) ∙ get_or-append-add (take a m) _ j (pos 0)
+
+  inside : (i : ℕ) → a ≤ i → i < a + k → get_or spread i (pos 0) ≡ z
+  inside i h l =
+      let e : a + (i - a) ≡ i = omega arith in
+      ap (λ (t : ℕ). get_or spread t (pos 0)) (sym e)
+      ∙ past (i - a)
+      ∙ get_or-append (replicate k z) _ (pos 0) (i - a) (simp length-replicate (omega arith))
+      ∙ get_or-replicate k (i - a) z (pos 0) (omega arith)
+
+  after : (i : ℕ) → a + k ≤ i → get_or spread i (pos 0) ≡ get_or m i (pos 0)
+  after i h =
+      let e : a + (k + (i - (a + k))) ≡ i = omega arith in
+      ap (λ (t : ℕ). get_or spread t (pos 0)) (sym e)
+      ∙ past (k + (i - (a + k)))
+      ∙ ap (λ (t : ℕ). get_or (replicate k z ++ drop k (drop a m)) (t + (i - (a + k))) (pos 0)) (sym (length-replicate k z))
+      ∙ get_or-append-add (replicate k z) _ (i - (a + k)) (pos 0)
+      ∙ get_or-drop k (drop a m) (i - (a + k)) (pos 0)
+      ∙ get_or-drop a m (k + (i - (a + k))) (pos 0)
+      ∙ ap (λ (t : ℕ). get_or m t (pos 0)) e
 
 -- ---- one run
 
@@ -61,21 +102,22 @@ module _ {base from : ℕ} {v : ℕ → ℤ} {best : ℕ → ℕ} {m : List ℤ}
     high_kept = λ p l. chain (put_other (base + x) _ _ n p (omega arith)) (w.high_kept p (omega arith));
   })
 
-  -- an empty run writes nothing
-  pub run_end : {to x : ℕ} {n : List ℤ} → Written base from x v best m n → from ≤ x → (from < x → x ≤ to) → to ≤ x → Written base from to v best m n
-  run_end {to} {x} {n} w h g k = elim (dec_lt from x) [
-    | yes l ↦ let e : x ≡ to = omega (arith, g l) in rw e at w
-    | no l ↦
-        let e : x ≡ from = omega arith in
-        let f = rw e at w in
-        record {
-          long = f.long;
-          dx = λ z i j. absurd (omega arith);
-          dy = λ z i j. absurd (omega arith);
-          low_kept = f.low_kept;
-          high_kept = λ p i. elim (dec_lt p (base + from)) [ yes j ↦ f.low_kept p j | no j ↦ f.high_kept p (omega arith) ];
-        }
-  ]
+  -- a run whose components are all z
+  pub run_filled : {to a : ℕ} (z : ℤ) {ys : List ℤ} → from ≤ to → 2 * (base + to) ≤ length m → a ≡ 2 * (base + from)
+      → ys ≡ replicate (length (take (2 * (base + to) - a) (drop a m))) z
+      → ((x : ℕ) → from ≤ x → x < to → (z ≡ across (best x) x) × (z ≡ site_way v (best x)))
+      → Written base from to v best m (put_mid a (2 * (base + to) - a) m ys)
+  run_filled {to} {a} z h room f e same =
+      let k = 2 * (base + to) - a in
+      let r : a + k ≤ length m = omega arith in
+      let n : length (take k (drop a m)) ≡ k = length-take-le k (drop a m) (simp length-drop (omega arith)) in
+      rw (e, n) (record {
+        long = spread-long a k z m r;
+        dx = λ x i l. inside a k z m r (2 * (base + x)) (omega arith) (omega arith) ∙ (same x i l).0;
+        dy = λ x i l. inside a k z m r (2 * (base + x) + 1) (omega arith) (omega arith) ∙ (same x i l).1;
+        low_kept = λ p l. (before a k z m r (2 * p) (omega arith), before a k z m r (2 * p + 1) (omega arith));
+        high_kept = λ p l. (after a k z m r (2 * p) (omega arith), after a k z m r (2 * p + 1) (omega arith));
+      })
 
 -- a run that goes to the columns that it should
 pub run_same : {base a b : ℕ} {u v : ℕ → ℤ} {way best : ℕ → ℕ} {m o : List ℤ} → Written base a b u way m o

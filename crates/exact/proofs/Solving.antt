@@ -4,7 +4,7 @@
 use mathlib.Core.Path.{◌≡◌, refl, sym, ap, ◌∙◌}
 use mathlib.Core.Logic.{⊎_elim}
 use mathlib.Core.List.{List}
-use Prim.Native.Nat.{ℕ, ◌+◌, ◌*◌, ◌/◌, ◌%◌, ◌<◌, ◌≤◌}
+use Prim.Native.Nat.{ℕ, suc, ◌+◌, ◌-◌, ◌*◌, ◌/◌, ◌%◌, ◌<◌, ◌≤◌}
 use native.Mathlib.Decide.{dec_lt, ℕ_discrete}
 use native.Mathlib.Nat.{mul-le-mul_right}
 use native.Mathlib.Omega.{arith}
@@ -32,6 +32,10 @@ pub record SolvedFrom (w h : ℕ) (before : List ℤ) (y : ℕ) (after : List �
   pub dx : (x z : ℕ) → x < w → y ≤ z → z < h → dx_at after (index w x z) ≡ across (best_site (row_costs before (z * w) w) w x) x
   pub dy : (x z : ℕ) → x < w → y ≤ z → z < h → dy_at after (index w x z) ≡ site_way (way_at before (z * w)) (best_site (row_costs before (z * w) w) w x)
   pub low_kept : (i : ℕ) → i < 2 * (y * w) → get_or after i (pos 0) ≡ get_or before i (pos 0)
+
+-- the row before row y ends where row y begins, on the sheet
+pub row_before : (w h y : ℕ) → 0 < y → y ≤ h → (y - 1) * w + w ≤ h * w
+row_before w h y l m = let e : suc (y - 1) ≤ h = omega arith in omega (arith, mul-le-mul_right w e)
 
 module _ {w h : ℕ} {m : List ℤ} where
   pub solved_none : SolvedFrom w h m h m

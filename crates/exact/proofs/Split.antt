@@ -14,14 +14,21 @@ use lib.ListN.{get_or}
 use lib.Seq.{get_or-take, get_or-drop}
 use Rattle.raster.specs.Distance.{gap}
 use borrow.Author.Tests.{eqb-true}
+use lib.Dec.{eqb}
+use mir.Syntax.{w16}
+use mir.Val.{SFits, of_z}
 use Rattle.raster.specs.Tests.{and_left, and_right}
 use Rattle.raster.specs.DistanceLaws.{gap-self, square_le}
 use Rattle.envelope.specs.Best.{no_site, price_of, price, Site, best_site}
 use Rattle.envelope.specs.BestLaws.{Found, best-found}
 use Rattle.columns.specs.Column.{is_zero}
+use Rattle.columns.proofs.Numbers.{zero_bits}
 use Rattle.exact.specs.Rows.{part, copper_from}
 
--- ---- copper columns
+-- ---- the places of a part, and copper columns
+
+pub part_at : {A : Type 0} (lo hi : ℕ) (s : List A) (j : ℕ) (d : A) → j < hi - lo → get_or (part lo hi s) j d ≡ get_or s (lo + j) d
+part_at lo hi s j d l = get_or-take (hi - lo) _ j d l ∙ get_or-drop lo s j d
 
 zero-way : (v : ℤ) → is_zero v ≡ true → v ≡ pos 0
 zero-way (pos n) e = ap pos (eqb-true n 0 e)
@@ -31,9 +38,11 @@ pub copper-none : (ways : List ℤ) (x : ℕ) → true ≡ copper_from ways x 0
 unfolding copper_from
 copper-none ways x = refl
 
-pub copper-more : (ways : List ℤ) (x i : ℕ) {a b : Bool} → b ≡ (a && is_zero (get_or ways (x + i) (pos 0))) → a ≡ copper_from ways x i → b ≡ copper_from ways x (i + 1)
+-- one column more of the eight from x on
+pub copper-more : (ways : List ℤ) (x i : ℕ) {a : Bool} → i < x + 8 - x → SFits w16 (get_or (part x (x + 8) ways) i (pos 0)) → a ≡ copper_from ways x i
+    → (a && eqb (of_z w16 (get_or (part x (x + 8) ways) i (pos 0))) 0) ≡ copper_from ways x (i + 1)
 unfolding copper_from
-copper-more ways x i e f = rw (add-one i) (e ∙ rw f)
+copper-more ways x i l f e = rw (add-one i, zero_bits _ f, part_at x (x + 8) ways i (pos 0) l, e)
 
 -- the way of each is 0
 pub copper-each : (ways : List ℤ) (x n : ℕ) → copper_from ways x n ≡ true → (k : ℕ) → x ≤ k → k < x + n → get_or ways k (pos 0) ≡ pos 0
@@ -43,6 +52,11 @@ copper-each ways x (suc n) e k i l = elim (ℕ_discrete k (x + n)) [
   | yes q ↦ rw q (zero-way _ (and_right (copper_from ways x n) _ e))
   | no q ↦ copper-each ways x n (and_left (copper_from ways x n) _ e) k i (omega arith)
 ]
+
+-- eight columns more are copper
+pub copper-on : (ways : List ℤ) (from x : ℕ) → copper_from ways x 8 ≡ true → ((k : ℕ) → from ≤ k → k < x → get_or ways k (pos 0) ≡ pos 0)
+    → (k : ℕ) → from ≤ k → k < x + 8 → get_or ways k (pos 0) ≡ pos 0
+copper-on ways from x e before k i l = elim (dec_lt k x) [ yes b ↦ before k i b | no b ↦ copper-each ways x 8 e k (omega arith) l ]
 
 -- ---- the best site
 
@@ -93,10 +107,6 @@ pub record Part (G : List ℕ) (n lo hi : ℕ) : Type 0 where
   pub on : hi ≤ n
   pub left : 0 < lo → get_or G lo 0 ≡ 0
   pub right : hi < n → get_or G (hi - 1) 0 ≡ 0
-
--- its places
-pub part_at : {A : Type 0} (lo hi : ℕ) (s : List A) (j : ℕ) (d : A) → j < hi - lo → get_or (part lo hi s) j d ≡ get_or s (lo + j) d
-part_at lo hi s j d l = get_or-take (hi - lo) _ j d l ∙ get_or-drop lo s j d
 
 -- the site b of the part is the site c of the line, or both are none
 abbrev pub Same : (lo hi b c : ℕ) → Type 0

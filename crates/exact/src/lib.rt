@@ -17,36 +17,19 @@ ghost use Rattle.columns.specs.Column.{is_zero};
 ghost use Rattle.exact.specs.Nearest.{exact_map, scratch_need, cleared, scratch_left};
 ghost use Rattle.exact.specs.Rows.{way_cost, way_at, row_costs, costs_of, Written, copper_from, CopperRun, CopperEnd, Next, Solved};
 
+use envelope::WorkingRows;
+
 // ---- one row
 
 // What a column with that way costs.
-fn cost_of(v: i32) -> u32
-    requires { Short v }
+fn cost_of(v: i16) -> u32
     ensures { result ≡ way_cost v }
 {
-    if v == -32768 {
-        return 4294967295;
+    if v == raster::MARK {
+        return u32::MAX;
     }
-    let m = raster::magnitude(v);
+    let m = raster::magnitude(i32::from(v));
     m * m
-}
-
-// The i-th way, in 32 bits.
-fn way_at(ways: &[i16], i: usize) -> i32
-    requires { i < length ways.now }
-    ensures { (result ≡ get_or ways.now i (pos 0)) × Short result }
-{
-    ways[i] as i32
-}
-
-// Copies the ways of the row that starts at `base`.
-fn copy_row(map: &[i16], base: usize, w: usize, ways: &mut [i16])
-    requires { (base + w ≤ length map.now) × (w ≤ length ways.old) }
-    ensures { ways.new ≡ tabulate w (way_at map.now base) ++ drop w ways.old }
-{
-    for k in 0..w {
-        ways[k] = map[base + k];
-    }
 }
 
 // The costs of the first n columns.
@@ -55,7 +38,7 @@ fn price_row(ways: &[i16], n: usize, cost: &mut [u32])
     ensures { cost.new ≡ costs_of ways.now n ++ drop n cost.old }
 {
     for k in 0..n {
-        cost[k] = cost_of(way_at(ways, k));
+        cost[k] = cost_of(ways[k]);
     }
 }
 
@@ -69,27 +52,15 @@ fn column_way(s: usize, x: usize) -> i32
 
 // The pixels from `from` to `to` − 1 of the row go to column s, whose way is v.
 fn write_run(map: &mut [i16], base: usize, from: usize, to: usize, s: usize, v: i32)
-    requires { (2 * (base + to) ≤ length map.old) × ((to ≤ 2048) × ((s < 2048) × Short v)) }
+    requires { (2 * (base + to) ≤ length map.old) × ((from ≤ to) × ((to ≤ 2048) × ((s < 2048) × Short v))) }
     ensures { Written base from to (λ b. v) (λ x. s) map.old map.new }
 {
-    let mut x = from;
-    while x < to {
+    for x in from..to {
         raster::put_at(map, base + x, column_way(s, x), v);
-        x += 1;
     }
 }
 
-// Leaves the first n pixels of the row unlabelled.
-fn clear_run(map: &mut [i16], base: usize, n: usize)
-    requires { 2 * (base + n) ≤ length map.old }
-    ensures { Written base 0 n (λ b. pos 0) (λ x. no_site) map.old map.new }
-{
-    for x in 0..n {
-        raster::put_at(map, base + x, -32768, -32768);
-    }
-}
-
-// Each pixel of the row goes to the column that holds it on the stack: runs, from the last entry to the first.
+// Each pixel of the row goes to the column that holds it on the stack: runs, from the last entry to the first. The pixels that none holds are unlabelled.
 fn write_row(
     map: &mut [i16],
     base: usize,
@@ -105,28 +76,16 @@ fn write_row(
     ensures { Written base 0 n (λ b. get_or ways.now b (pos 0))
         (holder site.now start.now count) map.old map.new }
 {
-    let mut c = count;
     let mut to = n;
-    while 0 < c {
-        c -= 1;
-        let from = envelope::element(start, c);
+    for c in (0..count).rev() {
+        let from = usize::from(start[c]);
         if from < to {
-            let s = envelope::element(site, c);
-            write_run(map, base, from, to, s, way_at(ways, s));
+            let s = usize::from(site[c]);
+            write_run(map, base, from, to, s, i32::from(ways[s]));
             to = from;
         }
     }
-    clear_run(map, base, to);
-}
-
-// Whether a stretch that was copper so far still is with the way v.
-fn still_copper(copper: bool, v: i16) -> bool
-    ensures { result ≡ copper && is_zero v }
-{
-    if v != 0 {
-        return false;
-    }
-    copper
+    map[2 * base..2 * (base + to)].fill(raster::MARK);
 }
 
 // Whether the eight columns from x on are copper. No jump out of the loop, so that they are looked at all at once.
@@ -135,8 +94,8 @@ fn is_copper(ways: &[i16], x: usize) -> bool
     ensures { result ≡ copper_from ways.now x 8 }
 {
     let mut copper = true;
-    for i in 0..8 {
-        copper = still_copper(copper, ways[x + i]);
+    for v in &ways[x..x + 8] {
+        copper &= *v == 0;
     }
     copper
 }
@@ -146,12 +105,10 @@ fn copper_run(ways: &[i16], from: usize, w: usize) -> usize
     requires { (from ≤ w) × ((w ≤ 2048) × (w ≤ length ways.now)) }
     ensures { CopperRun ways.now from w result }
 {
-    let mut x = from;
-    while x + 8 <= w {
-        if is_copper(ways, x) {
+    for x in (from..w).step_by(32) {
+        if x + 8 <= w && is_copper(ways, x) {
             return x;
         }
-        x += 32;
     }
     w
 }
@@ -161,27 +118,12 @@ fn copper_end(ways: &[i16], from: usize, w: usize) -> usize
     requires { (from ≤ w) × ((w ≤ 2048) × (w ≤ length ways.now)) }
     ensures { CopperEnd ways.now from w result }
 {
-    let mut x = from;
-    while x + 8 <= w {
-        if is_copper(ways, x) {
-            x += 8;
-        } else {
+    for x in (from..w).step_by(8) {
+        if x + 8 > w || !is_copper(ways, x) {
             return x;
         }
     }
-    x
-}
-
-// The pixels from `from` to `to` − 1 of the row are copper: each goes to itself.
-fn write_copper(map: &mut [i16], base: usize, from: usize, to: usize)
-    requires { (2 * (base + to) ≤ length map.old) × ((from ≤ to) × (to ≤ 2048)) }
-    ensures { Written base from to (λ b. pos 0) (λ x. x) map.old map.new }
-{
-    let mut x = from;
-    while x < to {
-        raster::put_at(map, base + x, 0, 0);
-        x += 1;
-    }
+    w
 }
 
 // The n pixels from `base` on, as a row of their own: each goes to the best of their columns.
@@ -204,23 +146,12 @@ fn solve_part(
     write_row(map, base, n, ways, site, start, count);
 }
 
-// Where the part that ends with the copper at x ends: after x, or with the row.
-fn part_end(x: usize, w: usize) -> usize
-    requires { x ≤ w }
-    ensures { result ≡ x + 1 - (x + 1 - w) }
-{
-    if x < w {
-        return x + 1;
-    }
-    w
-}
-
-// The pixels from `lo` to the end of the next long run of copper, which starts at `done` or later: each goes to its best column. The result is that end.
+// The next part of the row, of which `done` pixels are written, and the long run of copper behind it. The part starts with the last pixel that is written, and
+// ends with the first of that run; copper goes to itself. The result is how many pixels are written then.
 fn solve_next(
     map: &mut [i16],
     base: usize,
     w: usize,
-    lo: usize,
     done: usize,
     ways: &[i16],
     cost: &mut [u32],
@@ -229,14 +160,15 @@ fn solve_next(
 ) -> usize
     requires w_in_bounds { (2 * (base + w) ≤ length map.old) × (w ≤ length ways.now) }
     requires line { Line cost.old w site.old start.old }
-    requires lo_le_done { (lo ≤ done) × ((done < w) × (0 < lo → get_or ways.now lo (pos 0) ≡ pos 0)) }
-    ensures { Next base w lo done ways.now map.old result map.new }
+    requires done_lt_w { (done < w) × (0 < done - 1 → get_or ways.now (done - 1) (pos 0) ≡ pos 0) }
+    ensures { Next base w (done - 1) done ways.now map.old result map.new }
 {
+    let lo = done.saturating_sub(1);
     let x = copper_run(ways, done, w);
-    let hi = part_end(x, w);
+    let hi = (x + 1).min(w);
     solve_part(map, base + lo, hi - lo, &ways[lo..hi], cost, site, start);
     let e = copper_end(ways, x, w);
-    write_copper(map, base, x, e);
+    map[2 * (base + x)..2 * (base + e)].fill(0);
     e
 }
 
@@ -256,51 +188,27 @@ pub fn solve_parts(
     ensures { Written base 0 w (λ b. get_or ways.now b (pos 0))
         (best_site (costs_of ways.now w) w) map.old map.new }
 {
-    let mut lo: usize = 0;
-    let mut done: usize = 0;
+    let mut done = 0;
     while done < w {
-        done = solve_next(map, base, w, lo, done, ways, cost, site, start);
-        lo = done - 1;
+        done = solve_next(map, base, w, done, ways, cost, site, start);
     }
 }
 
 // The row that starts at `base`: each pixel goes to its best column.
-fn solve_row(
-    map: &mut [i16],
-    base: usize,
-    w: usize,
-    ways: &mut [i16],
-    cost: &mut [u32],
-    site: &mut [u16],
-    start: &mut [u16],
-)
-    requires w_in_bounds { (2 * (base + w) ≤ length map.old) × (w ≤ 2048) }
-    requires lengths { (w ≤ length ways.old) × ((w ≤ length cost.old) × ((w ≤ length site.old) × (w ≤ length start.old))) }
+fn solve_row(map: &mut [i16], base: usize, w: usize, ways: &mut [i16], rows: &mut WorkingRows)
+    requires { (2 * (base + w) ≤ length map.old) × ((w ≤ 2048) × (w ≤ length ways.old)) }
     ensures { Written base 0 w (way_at map.old base) (best_site (row_costs map.old base w) w) map.old map.new }
 {
-    copy_row(map, base, w, ways);
-    solve_parts(map, base, w, ways, cost, site, start);
-}
-
-// All rows, from the last.
-fn solve_rows(
-    map: &mut [i16],
-    w: usize,
-    h: usize,
-    ways: &mut [i16],
-    cost: &mut [u32],
-    site: &mut [u16],
-    start: &mut [u16],
-)
-    requires w_in_bounds { (2 * (h * w) ≤ length map.old) × (w ≤ 2048) }
-    requires lengths { (w ≤ length ways.old) × ((w ≤ length cost.old) × ((w ≤ length site.old) × (w ≤ length start.old))) }
-    ensures { Solved w h map.old map.new }
-{
-    let mut rows = h;
-    while 0 < rows {
-        rows -= 1;
-        solve_row(map, rows * w, w, ways, cost, site, start);
-    }
+    ways[..w].copy_from_slice(&map[base..base + w]);
+    solve_parts(
+        map,
+        base,
+        w,
+        ways,
+        &mut rows.cost,
+        &mut rows.site,
+        &mut rows.start,
+    );
 }
 
 // All rows, from the last. The working row `ways` is lent, the others are local.
@@ -308,10 +216,10 @@ fn solve(map: &mut [i16], w: usize, h: usize, ways: &mut [i16])
     requires { (2 * (h * w) ≤ length map.old) × ((w ≤ 2048) × (w ≤ length ways.old)) }
     ensures { Solved w h map.old map.new }
 {
-    let mut cost = [0u32; 2048];
-    let mut site = [0u16; 2048];
-    let mut start = [0u16; 2048];
-    solve_rows(map, w, h, ways, &mut cost, &mut site, &mut start);
+    let mut rows = WorkingRows::new();
+    for y in (0..h).rev() {
+        solve_row(map, y * w, w, ways, &mut rows);
+    }
 }
 
 // ---- the map
@@ -321,18 +229,14 @@ pub fn zero(scratch: &mut [i16], n: usize)
     requires { n ≤ length scratch.old }
     ensures { scratch.new ≡ cleared n scratch.old }
 {
-    let mut i: usize = 0;
-    while i < n {
-        scratch[i] = 0;
-        i += 1;
-    }
+    scratch[..n].fill(0);
 }
 
 // How many scratch numbers `exact` needs.
 pub fn scratch_need(w: u16) -> usize
     ensures { result ≡ scratch_need w }
 {
-    4 * (w as usize)
+    4 * usize::from(w)
 }
 
 // The exact map of a sheet of w × h pixels. Scratch holds the ways of the row at hand; as much of it as is asked for is left at 0.

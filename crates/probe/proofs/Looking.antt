@@ -7,10 +7,13 @@ use Prim.Native.Nat.{ℕ, ◌+◌, ◌*◌, ◌<◌, ◌≤◌}
 use native.Mathlib.Decide.{dec_lt, ℕ_discrete}
 use native.Mathlib.Omega.{arith}
 use lib.Dec.{eqb, leb}
-use lib.ListN.{get_or}
+use lib.ListN.{length, get_or, take}
+use lib.Seq.{length-take-le}
+use Rattle.std.proofs.lemmas.List.{get_or-take}
+use mir.Val.{bool_byte}
 use borrow.Author.Tests.{leb-true, leb-false}
 use Rattle.raster.specs.Loop.{count_below}
-use Rattle.raster.specs.LoopLaws.{count_none}
+use Rattle.raster.specs.LoopLaws.{count_none, count_same}
 use Rattle.raster.specs.Pixels.{Mask, index}
 use Rattle.raster.specs.Rows.{RowWritten}
 use Rattle.raster.specs.Sheet.{copper_of}
@@ -115,3 +118,15 @@ module _ {copper : Mask} {w h y : ℕ} {below : List ℕ} where
       ahead = leb-false (get_or below x 0) y (count_none w (λ z. outdated y (get_or below z 0)) e x l);
     };
   }
+
+-- one more is counted where the flag is set
+pub count_flag : (n : ℕ) (t : Bool) → (n + bool_byte t ≡ cond t (n + 1) n) × (bool_byte t ≤ 1)
+count_flag n true = (refl, omega arith)
+count_flag n false = (omega arith, omega arith)
+
+-- the columns are counted in the front of the list
+pub outdated_front : (w y : ℕ) (below : List ℕ) → w ≤ length below
+    → count_below (length (take w below)) (λ x. outdated y (get_or (take w below) x 0)) ≡ count_below w (λ x. outdated y (get_or below x 0))
+outdated_front w y below l =
+    rw (length-take-le w below l)
+    (count_same w (λ x. outdated y (get_or below x 0)) (λ x. outdated y (get_or (take w below) x 0)) (λ x m. rw (get_or-take w below x 0 m)))

@@ -7,9 +7,6 @@ use native.Mathlib.Omega.{arith}
 use lib.Dec.{eqb, leb}
 use lib.IntN.{ℤ, pos}
 use lib.ListN.{get_or}
-use mir.Syntax.{w16}
-use mir.Val.{to_z}
-use mir.ValLaws.{to_z-of_z}
 use borrow.Author.Tests.{eqb-true, eqb-false, leb-true, leb-false}
 use Rattle.raster.specs.Limits.{max_side}
 use Rattle.raster.specs.Pixels.{Mask}
@@ -22,10 +19,6 @@ use Rattle.exact.proofs.Columns.{site_exact}
 use Rattle.exact.proofs.Prices.{costs-at}
 use Rattle.probe.specs.Rows.{LastAbove, LastAboves, Upcomings, FirstBelow, FirstBelows, way_up, way_down, way_between, RowExact, Worked}
 use Rattle.probe.proofs.Looking.{above-none, upcoming_none, upcoming_later}
-
--- a number of 15 bits, read back from its bits
-pub short_bits : (n : ℕ) → n < 32768 → to_z w16 n ≡ pos n
-short_bits n l = to_z-of_z w16 (pos n) (record { sfits = l })
 
 module _ (copper : Mask) (h x y : ℕ) (inside : y < h) where
   way_up_lem : {a : ℕ} → LastAbove copper x (y + 1) a → Back (copper x) y (way_up y a)

@@ -8,9 +8,8 @@ use Prim.Native.Nat.{ℕ, ◌+◌, ◌-◌, ◌*◌, ◌<◌, ◌≤◌}
 use native.Mathlib.Omega.{arith}
 use lib.Dec.{eqb, ltb}
 use lib.IntN.{ℤ}
-use lib.ListN.{length, get_or, set}
+use lib.ListN.{get_or}
 use borrow.Author.Tests.{lt-ltb, ltb-true, ne_eqb, eq-eqb}
-use Rattle.raster.proofs.Writing.{set_more}
 use Rattle.raster.specs.Distance.{gap, apart}
 use Rattle.raster.specs.Loop.{any_below}
 use Rattle.raster.specs.LoopLaws.{any_found, any-true}
@@ -21,7 +20,7 @@ use Rattle.raster.specs.Tests.{and_left, and_right, same}
 use Rattle.envelope.specs.Best.{no_cost, no_site, price_of, price, Site, best_site}
 use Rattle.envelope.specs.BestLaws.{Least, best-found}
 use Rattle.rebuild.specs.Rebuild.{covers}
-use Rattle.rebuild.specs.Passes.{pass_row, row_covers, mark_cost, Priced, Costs, hit_by}
+use Rattle.rebuild.specs.Passes.{pass_row, row_covers, Priced, hit_by}
 
 -- ---- what a pixel costs
 
@@ -35,27 +34,6 @@ open_cost : (a b : Bool) (v : ℕ) → not a && not b ≡ true → cond a no_cos
 open_cost true b v e = absurd (false≢true e)
 open_cost false true v e = absurd (false≢true e)
 open_cost false false v e = refl
-
--- a site costs at most 2^31
-cost_range : (a b : Bool) (v : ℕ) → v ≤ 2147483648 → cond a no_cost (cond b no_cost v) < no_cost → cond a no_cost (cond b no_cost v) ≤ 2147483648
-cost_range a b v s l = rw (site_open a b v l).1 s
-
-module _ {m : List ℤ} {marks : List ℕ} {base w : ℕ} {cost : List ℕ} where
-  pub priced_range : Priced m marks base w cost → Costs cost w
-  priced_range p k l i =
-      rw (p.costs k l) (cost_range (eqb (get_or marks (base + k) 0) 0) (unlabelled_at m (base + k)) _ (omega arith) (rw (p.costs k l) at i))
-
--- the costs of the first k columns
-module _ {m : List ℤ} {marks : List ℕ} {base : ℕ} where
-  pub priced-none : {cost : List ℕ} → Priced m marks base 0 cost
-  priced-none = record { costs = λ k l. absurd (omega arith); sizes = λ k l. absurd (omega arith) }
-
-  pub priced-more : {k v : ℕ} {cost : List ℕ} → Priced m marks base k cost → k < length cost
-      → (v ≡ mark_cost m marks (base + k)) × (v < no_cost → size_at m (base + k) ≤ 2147483648) → Priced m marks base (k + 1) (set cost k v)
-  priced-more {k} {v} {cost} p l e = record {
-    costs = set_more 0 (λ j u. u ≡ mark_cost m marks (base + j)) (λ j. j) cost l (λ j a. omega arith) e.0 p.costs;
-    sizes = set_more 0 (λ j u. u < no_cost → size_at m (base + j) ≤ 2147483648) (λ j. j) cost l (λ j a. omega arith) e.1 p.sizes;
-  }
 
 -- ---- a row and the pixels of another, z
 

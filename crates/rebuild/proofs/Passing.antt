@@ -31,10 +31,6 @@ rows_differ : (up : Bool) (h t k : ℕ) → t < h → k < h → k ≢ t → pass
 rows_differ true h t k a b n e = n (omega arith)
 rows_differ false h t k a b n e = n e
 
-pub row_inside : (up : Bool) (h t : ℕ) → t < h → pass_row up h t < h
-row_inside true h t l = omega arith
-row_inside false h t l = l
-
 module _ (m : List ℤ) (w h : ℕ) (marks : List ℕ) (up : Bool) where
   -- the pixel x of the k-th row is covered by one of the first n rows of the pass
   pub reached : (x n k : ℕ) → Bool

@@ -4,12 +4,9 @@ use mathlib.Core.Path.{◌≡◌, refl, sym, ◌∙◌}
 use mathlib.Core.Bool.{Bool, false, ◌||◌, or-true}
 use mathlib.Core.List.{List}
 use Prim.Native.Nat.{ℕ, ◌+◌, ◌-◌, ◌*◌, ◌<◌, ◌≤◌}
-use native.Mathlib.Decide.{dec_lt, ℕ_discrete}
-use native.Mathlib.Nat.{mul-le-mul}
+use native.Mathlib.Decide.{dec_lt}
 use native.Mathlib.Omega.{arith}
 use lib.Dec.{ltb}
-use lib.ListN.{length, get_or, set, length-set}
-use lib.Seq.{get_or-set_same, get_or-set_other}
 use borrow.Author.Tests.{lt-ltb, le-ltb}
 use Rattle.rebuild.specs.Passes.{Raised, RowRaised}
 
@@ -45,46 +42,11 @@ module _ {t price r₀ : ℕ} where
       go k a b (yes p) (yes q) = rw (lt-ltb k r p, lt-ltb k r₀ q) (sym (or-true (ltb ((k - t) * (k - t) + price) 2147483648)))
       go k a b (yes p) (no q) = rw (lt-ltb k r p, lt-ltb ((k - t) * (k - t) + price) 2147483648 (g.held k a (omega arith) p))
 
--- a test that fails at r fails at all rows beyond
-pub beyond : (t price r : ℕ) → t ≤ r → 2147483648 ≤ (r - t) * (r - t) + price → (k : ℕ) → r ≤ k → 2147483648 ≤ (k - t) * (k - t) + price
-beyond t price r a l k b = let e : r - t ≤ k - t = omega arith in omega (arith, mul-le-mul e e)
-
 -- tests that agree from the t-th row on
 pub raised-same : {t h : ℕ} {f g : ℕ → Bool} {r₀ r : ℕ} → ((k : ℕ) → t ≤ k → k < h → g k ≡ f k) → Raised t h f r₀ r → Raised t h g r₀ r
 raised-same {t} {h} {f} {g} {r₀} {r} e s = record { says = λ k a b. rw (e k a b) (s.says k a b) }
 
 -- ---- a run of columns
-
-module _ {t h from : ℕ} {hit : ℕ → ℕ → Bool} {before : List ℕ} where
-  pub lift_none : RowRaised t h from from hit before before
-  lift_none = record { long = refl; here = λ x a b. absurd (omega arith); low_kept = λ x l. refl; high_kept = λ x l. refl }
-
-  pub lift_more : {x v : ℕ} {after : List ℕ} → RowRaised t h from x hit before after → from ≤ x → x < length before
-      → Raised t h (hit x) (get_or after x 0) v → RowRaised t h from (x + 1) hit before (set after x v)
-  lift_more {x} {v} {after} r a l e = record {
-    long = length-set after x v ∙ r.long;
-    here = λ z b m. elim (ℕ_discrete z x) [
-      | yes q ↦ rw (q, get_or-set_same after x v 0 (omega (arith, r.long)), ← r.high_kept x (omega arith)) e
-      | no q ↦ rw (get_or-set_other after x z v 0 q) (r.here z b (omega arith))
-    ];
-    low_kept = λ z m. get_or-set_other after x z v 0 (omega arith) ∙ r.low_kept z m;
-    high_kept = λ z m. get_or-set_other after x z v 0 (omega arith) ∙ r.high_kept z (omega arith);
-  }
-
-  -- an empty run raises nothing
-  pub lift_end : {to x : ℕ} {after : List ℕ} → RowRaised t h from x hit before after → from ≤ x → (from < x → x ≤ to) → to ≤ x → RowRaised t h from to hit before after
-  lift_end {to} {x} {after} r a g b = elim (dec_lt from x) [
-    | yes l ↦ let e : x ≡ to = omega (arith, g l) in rw e at r
-    | no l ↦
-        let e : x ≡ from = omega arith in
-        let f = rw e at r in
-        record {
-          long = f.long;
-          here = λ z i j. absurd (omega arith);
-          low_kept = f.low_kept;
-          high_kept = λ z i. elim (dec_lt z from) [ yes j ↦ f.low_kept z j | no j ↦ f.high_kept z (omega arith) ];
-        }
-  ]
 
 -- a run that raises nothing
 pub lift_bare : {t h from to : ℕ} {before : List ℕ} → RowRaised t h from to (λ x k. false) before before

@@ -6,47 +6,85 @@
 
 #![tactic(auto)]
 
-ghost use Rattle.std.specs.Prelude.{◌≡◌, cond, ℕ, ◌+◌, ◌-◌, ◌*◌, ◌≤◌, ◌<◌, ltb, length, get_or};
-ghost use Rattle.raster.specs.Distance.{gap};
-ghost use Rattle.raster.specs.Map.{Inside, size_at};
+ghost use Rattle.std.specs.Prelude.{◌≡◌, cond, ◌+◌, ◌-◌, ◌*◌, ◌≤◌, ◌<◌, ltb, length, get_or};
+ghost use Rattle.raster.specs.Map.{size_at};
 ghost use Rattle.raster.specs.Rows.{RowWritten};
 ghost use Rattle.envelope.specs.Best.{no_cost, price_of};
 ghost use Rattle.envelope.specs.Stack.{Entries, holder};
 ghost use Rattle.rebuild.specs.Rebuild.{rebuilt};
 ghost use Rattle.rebuild.specs.Passes.{pass_row, row_covers, mark_cost, Priced, Costs, hits, hit_by, Raised, RowRaised, Passed};
 
-// What pixel p costs: an unmarked or unlabelled one is no site.
-fn cost_of(map: &[i16], marks: &[u8], p: usize) -> u32
-    requires { Inside p map.now × (p < length marks.now) }
-    ensures { (result ≡ mark_cost map.now marks.now p) × (result < no_cost → size_at map.now p ≤ 2147483648) }
-{
-    if marks[p] == 0 {
-        return 4294967295;
-    }
-    if raster::unlabelled_at(map, p) {
-        return 4294967295;
-    }
-    2147483648 - raster::size_at(map, p)
+use envelope::WorkingRows;
+
+// A map of w × h pixels with its marks, a byte a pixel, which is 0 where there is no mark.
+#[derive(Clone, Copy)]
+struct Marked<'a> {
+    map: &'a [i16],
+    marks: &'a [u8],
+    w: usize,
+    h: usize,
+    ghost sides: { (w ≤ 2048) × (h ≤ 2048) },
+    ghost pixels: { (length map.now ≡ 2 * (h * w)) × (length marks.now ≡ h * w) },
 }
 
-// Writes the costs of the row that starts at `base`.
-fn price_row(map: &[i16], marks: &[u8], base: usize, w: usize, cost: &mut [u32])
-    requires { (2 * (base + w) ≤ length map.now) × ((base + w ≤ length marks.now) × (w ≤ length cost.old)) }
-    ensures { Priced map.now marks.now base w cost.new }
-{
-    for k in 0..w {
-        cost[k] = cost_of(map, marks, base + k);
+impl Marked<'_> {
+    // What pixel p costs: an unmarked or unlabelled one is no site.
+    fn cost_of(&self, p: usize) -> u32
+        requires { p < self.now.h * self.now.w }
+        ensures { (result ≡ mark_cost self.now.map.now self.now.marks.now p)
+            × (result < no_cost → size_at self.now.map.now p ≤ 2147483648) }
+    {
+        if self.marks[p] == 0 || raster::unlabelled_at(self.map, p) {
+            return u32::MAX;
+        }
+        2147483648 - raster::size_at(self.map, p)
     }
-}
 
-// How far two columns lie apart.
-fn gap_of(a: usize, b: usize) -> usize
-    ensures { result ≡ gap a b }
-{
-    if a < b {
-        return b - a;
+    // Writes the costs of row y.
+    fn price_row(&self, y: usize, cost: &mut [u32; 2048])
+        requires { y < self.now.h }
+        ensures { Priced self.now.map.now self.now.marks.now (y * self.now.w) self.now.w cost.new }
+    {
+        let base = y * self.w;
+        for k in 0..self.w {
+            cost[k] = self.cost_of(base + k);
+        }
     }
-    a - b
+
+    // One row of a pass: its marked pixels raise the columns, then its covered pixels are written.
+    fn pass_row<const UP: bool>(
+        &self,
+        out: &mut [u8],
+        t: usize,
+        reach: &mut [u16; 2048],
+        rows: &mut WorkingRows,
+    )
+        requires { (t < self.now.h) × (length out.old ≡ self.now.h * self.now.w) }
+        ensures raised { RowRaised t self.now.h 0 self.now.w
+            (λ x k. row_covers self.now.map.now self.now.w self.now.h self.now.marks.now x (pass_row UP self.now.h k) (pass_row UP self.now.h t))
+            reach.old reach.new }
+        ensures marked { RowWritten (pass_row UP self.now.h t * self.now.w) self.now.w
+            (λ x. cond (ltb t (get_or reach.new x 0)) 1 (get_or out.old (pass_row UP self.now.h t * self.now.w + x) 0))
+            out.old out.new }
+    {
+        let y = if UP { self.h - 1 - t } else { t };
+        self.price_row(y, &mut rows.cost);
+        let count = rows.build(self.w);
+        raise_row(reach, self.w, t, self.h, rows, count);
+        mark_row(out, y * self.w, self.w, t, reach);
+    }
+
+    // A pass over all rows, from the bottom up or from the top down, which begins with no column covered.
+    fn pass<const UP: bool>(&self, out: &mut [u8])
+        requires { length out.old ≡ self.now.h * self.now.w }
+        ensures { Passed self.now.map.now self.now.w self.now.h self.now.marks.now UP out.old out.new }
+    {
+        let mut reach = [0; 2048];
+        let mut rows = WorkingRows::new();
+        for t in 0..self.h {
+            self.pass_row::<UP>(out, t, &mut reach, &mut rows);
+        }
+    }
 }
 
 // What a site at s of cost g costs at x.
@@ -54,18 +92,8 @@ fn price_at(x: usize, s: usize, g: usize) -> usize
     requires { (x < 2048) × ((s < 2048) × (g ≤ 2147483648)) }
     ensures { (result ≡ price_of x s g) × (result ≤ 4294967296) }
 {
-    let d = gap_of(x, s);
+    let d = x.abs_diff(s);
     d * d + g
-}
-
-// The later of two rows.
-fn later(a: usize, b: usize) -> usize
-    ensures { result ≡ b + (a - b) }
-{
-    if a < b {
-        return b;
-    }
-    a
 }
 
 // The row before which a column is covered, raised from r0 by a site of row t that costs `price` there.
@@ -73,160 +101,69 @@ fn raise(r0: u16, t: usize, h: usize, price: usize) -> u16
     requires { (h ≤ 2048) × ((t < h) × (price ≤ 4294967296)) }
     ensures { Raised t h (λ k. ltb ((k - t) * (k - t) + price) 2147483648) r0 result }
 {
-    let mut r = later(r0 as usize, t);
-    while r < h {
+    for r in t.max(usize::from(r0))..h {
         if 2147483648 <= (r - t) * (r - t) + price {
             return r as u16;
         }
-        r += 1;
     }
-    r as u16
+    h as u16
 }
 
 // The columns from `from` to `to` − 1, raised by the site s of cost g.
-fn raise_run(reach: &mut [u16], from: usize, to: usize, t: usize, h: usize, s: usize, g: usize)
-    requires to_in_bounds { (to ≤ length reach.old) × ((to ≤ 2048) × ((h ≤ 2048) × (t < h))) }
+fn raise_run(
+    reach: &mut [u16; 2048],
+    from: usize,
+    to: usize,
+    t: usize,
+    h: usize,
+    s: usize,
+    g: usize,
+)
+    requires to_in_bounds { (from ≤ to) × ((to ≤ 2048) × ((h ≤ 2048) × (t < h))) }
     requires s_bound { (s < 2048) × (g ≤ 2147483648) }
     ensures { RowRaised t h from to (λ x k. hits t x s g k) reach.old reach.new }
 {
-    let mut x = from;
-    while x < to {
+    for x in from..to {
         reach[x] = raise(reach[x], t, h, price_at(x, s, g));
-        x += 1;
     }
 }
 
 // Each column raised by the site that holds it on the stack: runs, from the last entry to the first.
 fn raise_row(
-    reach: &mut [u16],
+    reach: &mut [u16; 2048],
     n: usize,
     t: usize,
     h: usize,
-    cost: &[u32],
-    site: &[u16],
-    start: &[u16],
+    rows: &WorkingRows,
     count: usize,
 )
-    requires n_in_bounds { (n ≤ length reach.old) × ((n ≤ 2048) × ((h ≤ 2048) × (t < h))) }
-    requires lengths { (n ≤ length cost.now) × ((count ≤ length site.now) × (count ≤ length start.now)) }
-    requires entries { Entries cost.now n site.now count }
-    requires costs { Costs cost.now n }
-    ensures { RowRaised t h 0 n (λ x. hit_by cost.now t x (holder site.now start.now count x))
+    requires n_in_bounds { (n ≤ 2048) × ((h ≤ 2048) × (t < h)) }
+    requires entries { Entries rows.now.cost n rows.now.site count }
+    requires costs { Costs rows.now.cost n }
+    ensures { RowRaised t h 0 n (λ x. hit_by rows.now.cost t x (holder rows.now.site rows.now.start count x))
         reach.old reach.new }
 {
-    let mut c = count;
     let mut to = n;
-    while 0 < c {
-        c -= 1;
-        let from = envelope::element(start, c);
+    for c in (0..count).rev() {
+        let from = usize::from(rows.start[c]);
         if from < to {
-            let s = envelope::element(site, c);
-            raise_run(reach, from, to, t, h, s, envelope::cost_at(cost, s));
+            let s = usize::from(rows.site[c]);
+            raise_run(reach, from, to, t, h, s, rows.cost[s] as usize);
             to = from;
         }
     }
 }
 
-// 1 where a pixel is covered, what it has elsewhere.
-fn covered_or(hit: bool, v: u8) -> u8
-    ensures { result ≡ cond hit 1 v }
-{
-    if hit {
-        return 1;
-    }
-    v
-}
-
 // Writes 1 at the covered pixels of the t-th row, which starts at `base`.
-fn mark_row(out: &mut [u8], base: usize, n: usize, t: usize, reach: &[u16])
-    requires { (base + n ≤ length out.old) × (n ≤ length reach.now) }
+fn mark_row(out: &mut [u8], base: usize, n: usize, t: usize, reach: &[u16; 2048])
+    requires { (base + n ≤ length out.old) × (n ≤ 2048) }
     ensures { RowWritten base n (λ x. cond (ltb t (get_or reach.now x 0)) 1 (get_or out.old (base + x) 0))
         out.old out.new }
 {
     for x in 0..n {
-        out[base + x] = covered_or(t < envelope::element(reach, x), out[base + x]);
+        let before = out[base + x];
+        out[base + x] = if t < usize::from(reach[x]) { 1 } else { before };
     }
-}
-
-// The t-th row of a pass.
-fn row_of(t: usize, h: usize, up: bool) -> usize
-    requires { t < h }
-    ensures { (result ≡ pass_row up h t) × (result < h) }
-{
-    if up {
-        return h - 1 - t;
-    }
-    t
-}
-
-// One row of a pass: its marked pixels raise the columns, then its covered pixels are written.
-fn pass_row(
-    map: &[i16],
-    marks: &[u8],
-    out: &mut [u8],
-    w: usize,
-    h: usize,
-    up: bool,
-    t: usize,
-    reach: &mut [u16],
-    cost: &mut [u32],
-    site: &mut [u16],
-    start: &mut [u16],
-)
-    requires w_bound { (w ≤ 2048) × ((h ≤ 2048) × (t < h)) }
-    requires map_len { (length map.now ≡ 2 * (h * w)) × ((length marks.now ≡ h * w) × (length out.old ≡ h * w)) }
-    requires w_in_bounds { (w ≤ length reach.old) × ((w ≤ length cost.old) × ((w ≤ length site.old) × (w ≤ length start.old))) }
-    ensures raised { RowRaised t h 0 w
-        (λ x k. row_covers map.now w h marks.now x (pass_row up h k) (pass_row up h t))
-        reach.old reach.new }
-    ensures marked { RowWritten (pass_row up h t * w) w
-        (λ x. cond (ltb t (get_or reach.new x 0)) 1 (get_or out.old (pass_row up h t * w + x) 0))
-        out.old out.new }
-{
-    let base = row_of(t, h, up) * w;
-    price_row(map, marks, base, w, cost);
-    let count = envelope::build(cost, w, site, start);
-    raise_row(reach, w, t, h, cost, site, start, count);
-    mark_row(out, base, w, t, reach);
-}
-
-// A pass over all rows, from columns that are not covered at all.
-fn pass_rows(
-    map: &[i16],
-    marks: &[u8],
-    out: &mut [u8],
-    w: usize,
-    h: usize,
-    up: bool,
-    reach: &mut [u16],
-    cost: &mut [u32],
-    site: &mut [u16],
-    start: &mut [u16],
-)
-    requires w_bound { (w ≤ 2048) × (h ≤ 2048) }
-    requires map_len { (length map.now ≡ 2 * (h * w)) × ((length marks.now ≡ h * w) × (length out.old ≡ h * w)) }
-    requires w_in_bounds { (w ≤ length reach.old) × ((w ≤ length cost.old) × ((w ≤ length site.old) × (w ≤ length start.old))) }
-    requires by_index { (x : ℕ) → x < w → get_or reach.old x 0 ≡ 0 }
-    ensures { Passed map.now w h marks.now up out.old out.new }
-{
-    for t in 0..h {
-        pass_row(map, marks, out, w, h, up, t, reach, cost, site, start);
-    }
-}
-
-// A pass over all rows, in local working rows.
-fn pass(map: &[i16], marks: &[u8], out: &mut [u8], w: usize, h: usize, up: bool)
-    requires w_bound { (w ≤ 2048) × (h ≤ 2048) }
-    requires map_len { (length map.now ≡ 2 * (h * w)) × ((length marks.now ≡ h * w) × (length out.old ≡ h * w)) }
-    ensures { Passed map.now w h marks.now up out.old out.new }
-{
-    let mut reach = [0u16; 2048];
-    let mut cost = [0u32; 2048];
-    let mut site = [0u16; 2048];
-    let mut start = [0u16; 2048];
-    pass_rows(
-        map, marks, out, w, h, up, &mut reach, &mut cost, &mut site, &mut start,
-    );
 }
 
 // The sheet that the marks on the map of w × h pixels cover, a byte a pixel, in linear time.
@@ -235,7 +172,8 @@ pub fn rebuild(map: &[i16], marks: &[u8], out: &mut [u8], w: usize, h: usize)
     requires map_len { (length map.now ≡ 2 * (h * w)) × ((length marks.now ≡ h * w) × (length out.old ≡ h * w)) }
     ensures { out.new ≡ rebuilt map.now w h marks.now }
 {
-    raster::fill(out, 0);
-    pass(map, marks, out, w, h, false);
-    pass(map, marks, out, w, h, true);
+    out.fill(0);
+    let marked = Marked { map, marks, w, h };
+    marked.pass::<false>(out);
+    marked.pass::<true>(out);
 }

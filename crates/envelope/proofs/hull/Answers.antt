@@ -1,3 +1,4 @@
+use mathlib.Core.Path.{refl}
 use native.Mathlib.Omega.{arith}
 use borrow.Author.Rules.{rules}
 use Rattle.envelope.proofs.Turns.{hulled_none, hulled_skip, hulled_bare}
@@ -8,7 +9,7 @@ loop-k-preserved c =
     let l = c.loop-k in
     let m = c.requires.0 in
     let r = c.skipped-k.ensures in
-    (l.invariant.0, hulled_bare (hulled_skip l.invariant.1 m (omega arith) c.cost_at.ensures.0 c.if-cost_at-lt4294967295.false) m _ r.0 r.1.0 r.1.1)
+    hulled_bare (hulled_skip l.invariant m (omega arith) refl c.if-cost-k-lt4294967295.false) m _ r.0 r.1.0 r.1.1
 
 pub loop-k-init : goal.loop-k-init
 loop-k-init c = search (rules, hulled_none)

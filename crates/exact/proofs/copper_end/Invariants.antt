@@ -1,4 +1,4 @@
--- `exact::copper_end` meets its contract. The invariant: all columns from `from` to x − 1 are copper.
+-- `exact::copper_end` meets its contract. The invariant: all columns from `from` to x − 1 are copper. The measure is what is left of the row.
 use mathlib.Core.Path.{◌≡◌}
 use Prim.Native.Nat.{ℕ, ◌-◌, ◌≤◌, ◌<◌}
 use lib.IntN.{pos}

@@ -1,19 +1,19 @@
-use Rattle.std.proofs.Common.{rules}
-use Prim.Native.Nat.{◌+◌}
-use native.Mathlib.Omega.{arith}
-use lib.IntN.{pos}
-use lib.ListN.{get_or}
 use mir.Syntax.{w16}
 use mir.Val.{SFits}
-use mir.ValLaws.{to_z-of_z}
+use lib.IntN.{pos}
+use lib.ListN.{get_or}
+use Prim.Native.Nat.{◌+◌, ◌-◌, ◌<◌}
+use borrow.Author.Rules.{rules}
+use Rattle.exact.specs.Rows.{part}
 use Rattle.exact.proofs.Split.{copper-none, copper-more}
 use Rattle.exact.proofs.is_copper.Goals as goal
 
-pub loop-i-init : goal.loop-i-init
-loop-i-init c = (omega arith, copper-none _ _)
+pub loop-v-init : goal.loop-v-init
+loop-v-init c = copper-none _ _
 
-pub loop-i-preserved : goal.loop-i-preserved
-loop-i-preserved c =
-    let l = c.loop-i in
-    let f : SFits w16 (get_or c.args.ways.now (c.args.x + l.i) (pos 0)) = search rules in
-    (omega arith, copper-more c.args.ways.now c.args.x l.i (rw (to_z-of_z w16 _ f) at c.still_copper-copper.ensures) l.invariant.1)
+pub loop-v-preserved : goal.loop-v-preserved
+loop-v-preserved c =
+    let l = c.loop-v in
+    let f : SFits w16 (get_or (part c.args.x (c.args.x + 8) c.args.ways.now) l.v-index (pos 0)) = search rules in
+    let i : l.v-index < c.args.x + 8 - c.args.x = search rules in
+    copper-more c.args.ways.now c.args.x l.v-index i f l.invariant

@@ -1,8 +1,7 @@
--- `exact::is_copper` meets its contract. The invariant: `copper` says whether the first i columns are copper.
+-- `exact::is_copper` meets its contract. The invariant: `copper` says whether the columns that were looked at are copper.
 use mathlib.Core.Path.{◌≡◌}
-use Prim.Native.Nat.{◌≤◌}
 use Rattle.exact.specs.Rows.{copper_from}
 use Rattle.exact.proofs.is_copper.Given as goal
 
-abbrev pub invariant-loop-i : goal.invariant-loop-i
-invariant-loop-i l = (l.i ≤ 8) × (l.copper ≡ copper_from l.ways l.x l.i)
+abbrev pub invariant-loop-v : goal.invariant-loop-v
+invariant-loop-v l = l.copper ≡ copper_from l.ways l.x l.v-index

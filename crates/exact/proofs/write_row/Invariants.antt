@@ -9,6 +9,3 @@ use Rattle.exact.proofs.write_row.Given as goal
 abbrev pub invariant-loop-c : goal.invariant-loop-c
 invariant-loop-c l =
     Unstacked l.n l.site l.start l.count l.c l.to × Written l.base l.to l.n (λ b. get_or l.ways b (pos 0)) (holder l.site l.start l.count) l.initial.map l.map
-
-abbrev pub decreases-loop-c : goal.decreases-loop-c
-decreases-loop-c l = l.c

@@ -1,7 +1,5 @@
--- `probe::probe_points` meets its contract. The invariant: of the first k points the distances are written and the rows counted, the row of the
--- last of them is worked out, and the working rows are as long as they were.
-use mathlib.Core.Path.{◌≡◌}
-use lib.ListN.{length}
+-- `probe::probe_points` meets its contract. The invariant: of the first k points the distances are written and the rows counted, and the row of the
+-- last of them is worked out.
 use Rattle.raster.specs.Distance.{true_distance}
 use Rattle.raster.specs.Sheet.{copper_of}
 use Rattle.raster.proofs.Writing.{Writing}
@@ -12,10 +10,6 @@ use Rattle.probe.proofs.probe_points.Given as goal
 
 abbrev pub invariant-loop-k : goal.invariant-loop-k
 invariant-loop-k l =
-    (RowsCounted l.points l.h l.k l.read l.rows
-    × (Worked (copper_of l.sheet l.w) l.w l.h l.read l.above l.below l.row
-    × Writing (λ i. true_distance (copper_of l.sheet l.w) l.w l.h (point_column l.points i) (point_row l.points i)) l.initial.out l.k l.out))
-    × ((length l.above ≡ length l.initial.above)
-    × ((length l.below ≡ length l.initial.below)
-    × ((length l.ways ≡ length l.initial.ways)
-    × ((length l.row ≡ length l.initial.row) × ((length l.cost ≡ length l.initial.cost) × ((length l.site ≡ length l.initial.site) × (length l.start ≡ length l.initial.start)))))))
+    RowsCounted l.points l.sheet.h l.k l.reading.read l.rows
+    × (Worked (copper_of l.sheet.bytes.now l.sheet.w) l.sheet.w l.sheet.h l.reading.read l.reading.above l.reading.below l.reading.row
+    × Writing (λ i. true_distance (copper_of l.sheet.bytes.now l.sheet.w) l.sheet.w l.sheet.h (point_column l.points i) (point_row l.points i)) l.initial.out l.k l.out)

@@ -6,7 +6,5 @@ use Rattle.rebuild.proofs.raise_row.Given as goal
 
 abbrev pub invariant-loop-c : goal.invariant-loop-c
 invariant-loop-c l =
-    Unstacked l.n l.site l.start l.count l.c l.to × RowRaised l.t l.h l.to l.n (λ x. hit_by l.cost l.t x (holder l.site l.start l.count x)) l.initial.reach l.reach
-
-abbrev pub decreases-loop-c : goal.decreases-loop-c
-decreases-loop-c l = l.c
+    Unstacked l.n l.rows.site l.rows.start l.count l.c l.to
+    × RowRaised l.t l.h l.to l.n (λ x. hit_by l.rows.cost l.t x (holder l.rows.site l.rows.start l.count x)) l.initial.reach l.reach

@@ -1,9 +1,0 @@
--- `probe::look_row` meets its contract. The invariant: the first x numbers are written, the rest are as they were.
-use Prim.Native.Nat.{◌+◌, ◌≤◌}
-use lib.ListN.{get_or}
-use Rattle.raster.specs.Rows.{RowWritten}
-use Rattle.probe.specs.Rows.{next_with}
-use Rattle.probe.proofs.look_row.Given as goal
-
-abbrev pub invariant-loop-x : goal.invariant-loop-x
-invariant-loop-x l = RowWritten 0 l.x (λ z. next_with l.y (get_or l.sheet (l.base + z) 0) l.n (get_or l.initial.below z 0)) l.initial.below l.below × (l.x ≤ l.w)
