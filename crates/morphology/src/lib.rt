@@ -10,16 +10,86 @@ ghost use Rattle.std.specs.Prelude.{◌≡◌, ◌+◌, ◌-◌, ◌*◌, ◌≤
 ghost use Rattle.raster.specs.Limits.{max_q};
 ghost use Rattle.raster.specs.Map.{Inside, unmapped};
 ghost use Rattle.raster.specs.Rows.{RowWritten};
-ghost use Rattle.exact.specs.Nearest.{scratch_need, scratch_left};
+ghost use Rattle.raster.specs.Sheet.{copper_of};
+ghost use Rattle.exact.specs.Nearest.{exact_map, scratch_need, scratch_left};
 ghost use Rattle.morphology.specs.Resize.{expanded, shrunk};
 ghost use Rattle.morphology.specs.Threshold.{turned, flipped, level_at, inner, thresholded_at, thresholded, RootUpTo};
+
+// How a sheet of w × h is written by the sizes of a map: `within` where a size is at most q, the other of 0 and 1 where it is more, and `within` in the first
+// and last `rim` rows and columns.
+#[derive(Clone, Copy)]
+struct Threshold {
+    w: usize,
+    h: usize,
+    q: u32,
+    within: u8,
+    rim: usize,
+    ghost sides: { (w ≤ 2048) × (h ≤ 2048) },
+    ghost zero_or_one: { within ≤ 1 },
+    ghost on_sheet: { rim ≤ w },
+}
+
+impl Threshold {
+    // What pixel p becomes: `within` where its size is at most q, and 1 − `within` elsewhere.
+    fn level(self, map: &[i16], p: usize) -> u8
+        requires { Inside p map.now }
+        ensures { result ≡ level_at map.now self.q self.within p }
+    {
+        if raster::size_at(map, p) <= self.q {
+            self.within
+        } else {
+            inverted(self.within)
+        }
+    }
+
+    // Writes the pixels from `from` to `to` − 1 by their sizes, as `level` says.
+    fn write_run(self, map: &[i16], sheet: &mut [u8], from: usize, to: usize)
+        requires { (to ≤ length sheet.old) × (length map.now ≡ 2 * length sheet.old) }
+        ensures { RowWritten from (to - from) (λ i. level_at map.now self.q self.within (from + i)) sheet.old sheet.new }
+    {
+        for p in from..to {
+            sheet[p] = self.level(map, p);
+        }
+    }
+
+    // Whether row y is an inner one: `rim` rows or more lie on either side of it.
+    fn is_inner(self, y: usize) -> bool
+        requires { y ≤ 2048 }
+        ensures { result ≡ inner self.rim self.h y }
+    {
+        (self.rim <= y) & (y + self.rim < self.h)
+    }
+
+    // Writes row y: `within` at the rim, by the sizes elsewhere.
+    fn write_row(self, map: &[i16], sheet: &mut [u8], y: usize)
+        requires row { y < self.h }
+        requires sheet_len { (length sheet.old ≡ self.h * self.w) × (length map.now ≡ 2 * (self.h * self.w)) }
+        ensures { RowWritten (y * self.w) self.w (λ x. thresholded_at map.now self.w self.h self.q self.within self.rim x y) sheet.old sheet.new }
+    {
+        let base = y * self.w;
+        raster::fill_span(sheet, base, self.w, self.within);
+        if self.is_inner(y) {
+            self.write_run(map, sheet, base + self.rim, base + (self.w - self.rim));
+        }
+    }
+
+    // Writes every pixel of the sheet: `within` in the first and last `rim` rows and columns, by its size elsewhere.
+    fn write(self, map: &[i16], sheet: &mut [u8])
+        requires { (length sheet.old ≡ self.h * self.w) × (length map.now ≡ 2 * (self.h * self.w)) }
+        ensures { sheet.new ≡ thresholded map.now self.w self.h self.q self.within self.rim }
+    {
+        for y in 0..self.h {
+            self.write_row(map, sheet, y);
+        }
+    }
+}
 
 // Turns every pixel of the sheet: copper becomes bare, bare copper.
 fn flip(sheet: &mut [u8])
     ensures { sheet.new ≡ flipped sheet.old }
 {
-    for p in 0..sheet.len() {
-        sheet[p] = inverted(sheet[p]);
+    for byte in sheet.iter_mut() {
+        *byte = inverted(*byte);
     }
 }
 
@@ -27,95 +97,33 @@ fn flip(sheet: &mut [u8])
 fn inverted(byte: u8) -> u8
     ensures { result ≡ turned byte }
 {
-    if byte == 0 {
-        return 1;
-    }
-    0
-}
-
-// What pixel p becomes: `v` where its size is at most q, and 1 − `v` elsewhere.
-fn level(map: &[i16], p: usize, q: u32, v: u8) -> u8
-    requires { Inside p map.now × (v ≤ 1) }
-    ensures { result ≡ level_at map.now q v p }
-{
-    if raster::size_at(map, p) <= q {
-        return v;
-    }
-    inverted(v)
-}
-
-// Writes the pixels from `from` to `to` − 1 by their sizes, as `level` says.
-fn threshold_run(map: &[i16], sheet: &mut [u8], from: usize, to: usize, q: u32, v: u8)
-    requires to_in_bounds { (to ≤ length sheet.old) × (length map.now ≡ 2 * length sheet.old) }
-    requires v_bound { v ≤ 1 }
-    ensures { RowWritten from (to - from) (λ i. level_at map.now q v (from + i)) sheet.old sheet.new }
-{
-    let mut p = from;
-    while p < to {
-        sheet[p] = level(map, p, q, v);
-        p += 1;
-    }
-}
-
-// Whether place t of a line of n places is an inner one: `rim` places or more lie on either side of it.
-fn is_inner(rim: usize, n: usize, t: usize) -> bool
-    requires { (rim ≤ 2048) × (t ≤ 2048) }
-    ensures { result ≡ inner rim n t }
-{
-    (rim <= t) & (t + rim < n)
-}
-
-// Writes row y: `v` at the rim, by the sizes elsewhere.
-fn threshold_row(
-    map: &[i16],
-    sheet: &mut [u8],
-    w: usize,
-    h: usize,
-    y: usize,
-    q: u32,
-    v: u8,
-    rim: usize,
-)
-    requires w_bound { (w ≤ 2048) × ((h ≤ 2048) × (y < h)) }
-    requires sheet_len { (length sheet.old ≡ h * w) × (length map.now ≡ 2 * (h * w)) }
-    requires v_bound { (v ≤ 1) × (rim ≤ w) }
-    ensures { RowWritten (y * w) w (λ x. thresholded_at map.now w h q v rim x y) sheet.old sheet.new }
-{
-    let base = y * w;
-    raster::fill_span(sheet, base, w, v);
-    if is_inner(rim, h, y) {
-        threshold_run(map, sheet, base + rim, base + (w - rim), q, v);
-    }
-}
-
-// Writes every pixel of the sheet: `v` in the first and last `rim` rows and columns, by its size elsewhere.
-fn threshold(map: &[i16], sheet: &mut [u8], w: usize, h: usize, q: u32, v: u8, rim: usize)
-    requires w_bound { (w ≤ 2048) × (h ≤ 2048) }
-    requires sheet_len { (length sheet.old ≡ h * w) × (length map.now ≡ 2 * (h * w)) }
-    requires v_bound { (v ≤ 1) × (rim ≤ w) }
-    ensures { sheet.new ≡ thresholded map.now w h q v rim }
-{
-    for y in 0..h {
-        threshold_row(map, sheet, w, h, y, q, v, rim);
-    }
+    u8::from(byte == 0)
 }
 
 // The integer square root of q, or n where that is less.
 fn root_up_to(q: u32, n: usize) -> usize
-    requires { n ≤ 2048 }
     ensures { RootUpTo n q result }
 {
-    let mut r = 0;
-    while r < n {
-        if (q as usize) < (r + 1) * (r + 1) {
-            return r;
-        }
-        r += 1;
-    }
-    r
+    (q.isqrt() as usize).min(n)
+}
+
+// Writes the sheet by the sizes of its own exact map. The map is left unlabelled, scratch as after exact. It is inlined, since each caller knows what is
+// written within q.
+#[inline(always)]
+fn resize(sheet: &mut [u8], map: &mut [i16], scratch: &mut [i16], by: Threshold)
+    requires sheet_len { (length sheet.old ≡ by.h * by.w) × (length map.old ≡ 2 * (by.h * by.w)) }
+    requires scratch_len { scratch_need by.w ≤ length scratch.old }
+    ensures sheet_left { sheet.new ≡ thresholded (exact_map (copper_of sheet.old by.w) by.w by.h) by.w by.h by.q by.within by.rim }
+    ensures map_left { map.new ≡ unmapped map.old }
+    ensures scratch_left { scratch.new ≡ scratch_left by.w scratch.old }
+{
+    exact::exact(sheet, map, scratch, by.w, by.h);
+    by.write(map, sheet);
+    raster::clear_map(map);
 }
 
 // A pixel is copper afterwards if its true squared distance is at most q. The map is left unlabelled, scratch as after exact.
+#[tactic(auto, using(crate::proofs::Resized::expands))]
 pub fn expand(sheet: &mut [u8], map: &mut [i16], scratch: &mut [i16], w: usize, h: usize, q: u32)
     requires w_bound { (w ≤ 2048) × ((h ≤ 2048) × (q ≤ max_q)) }
     requires sheet_len { (length sheet.old ≡ h * w) × ((length map.old ≡ 2 * (h * w)) × (scratch_need w ≤ length scratch.old)) }
@@ -123,13 +131,19 @@ pub fn expand(sheet: &mut [u8], map: &mut [i16], scratch: &mut [i16], w: usize, 
     ensures map_left { map.new ≡ unmapped map.old }
     ensures scratch_left { scratch.new ≡ scratch_left w scratch.old }
 {
-    exact::exact(sheet, map, scratch, w, h);
-    threshold(map, sheet, w, h, q, 1, 0);
-    raster::clear_map(map);
+    let by = Threshold {
+        w,
+        h,
+        q,
+        within: 1,
+        rim: 0,
+    };
+    resize(sheet, map, scratch, by);
 }
 
 // Copper stays where no bare pixel of the sheet and no place off it is within squared distance q: the exact map of the sheet turned round says how far the
 // next bare pixel is, the root of q which pixels are too near to the rim.
+#[tactic(auto, using(crate::proofs::Resized::shrinks))]
 pub fn shrink(sheet: &mut [u8], map: &mut [i16], scratch: &mut [i16], w: usize, h: usize, q: u32)
     requires w_bound { (w ≤ 2048) × ((h ≤ 2048) × (q ≤ max_q)) }
     requires sheet_len { (length sheet.old ≡ h * w) × ((length map.old ≡ 2 * (h * w)) × (scratch_need w ≤ length scratch.old)) }
@@ -138,7 +152,12 @@ pub fn shrink(sheet: &mut [u8], map: &mut [i16], scratch: &mut [i16], w: usize, 
     ensures scratch_left { scratch.new ≡ scratch_left w scratch.old }
 {
     flip(sheet);
-    exact::exact(sheet, map, scratch, w, h);
-    threshold(map, sheet, w, h, q, 0, root_up_to(q, w));
-    raster::clear_map(map);
+    let by = Threshold {
+        w,
+        h,
+        q,
+        within: 0,
+        rim: root_up_to(q, w),
+    };
+    resize(sheet, map, scratch, by);
 }

@@ -13,9 +13,10 @@ use Rattle.raster.specs.Distance.{gap}
 use Rattle.raster.specs.Loop.{any_below}
 use Rattle.raster.specs.Map.{size_at, unlabelled_at}
 use Rattle.raster.specs.Pixels.{index}
+use Rattle.skeleton.specs.declared.Band.{Band}
 use Rattle.skeleton.specs.Table.{g, least}
 use Rattle.skeleton.specs.Skeleton.{takes, on_side, taken_by, removed, kept}
-use Rattle.skeleton.specs.Bands.{counted, taken_at, on_sheet, Band, taken_in, kept_in}
+use Rattle.skeleton.specs.Bands.{counted, taken_at, on_sheet, BandOf, taken_in, kept_in}
 use Rattle.skeleton.proofs.Bands.{from_zero}
 
 -- three tests are `any_below` of three
@@ -60,29 +61,29 @@ module _ (m : List ℤ) (w h x y : ℕ) where
         go true = counted-takes corner n (size_at m (index w x y)) bare
         go false = ne_eqb 0 (size_at m (index w x y)) (λ q. bare (sym q))
 
-    module _ {above row below : List ℕ} (l : x < w) (a : Band m w h y above) (r : Band m w h (y + 1) row) (b : Band m w h (y + 1 + 1) below) where
+    module _ {above row below : Band} (l : x < w) (a : BandOf m w h y above) (r : BandOf m w h (y + 1) row) (b : BandOf m w h (y + 1 + 1) below) where
       removed_is : taken_in above row below x (size_at m (index w x y)) ≡ removed m w h x y
       unfolding removed
       removed_is =
           any-three (λ i. any_below 3 (λ j. taken_by m w h x y i j))
           (any-three (taken_by m w h x y 2)
-          (same (b.corners.entry (x + 2) (omega arith)) (taken_is 2 2 (x + 2) (y + 1 + 1) refl (omega arith) refl))
+          (same (from_zero b.corners (x + 2) (omega arith)) (taken_is 2 2 (x + 2) (y + 1 + 1) refl (omega arith) refl))
           (same (from_zero r.sides (x + 2) (omega arith)) (taken_is 2 1 (x + 2) (y + 1) refl refl refl))
-          (same (a.corners.entry (x + 2) (omega arith)) (taken_is 2 0 (x + 2) y refl (omega arith) refl)))
+          (same (from_zero a.corners (x + 2) (omega arith)) (taken_is 2 0 (x + 2) y refl (omega arith) refl)))
           (any-three (taken_by m w h x y 1)
           (same (from_zero b.sides (x + 1) (omega arith)) (taken_is 1 2 (x + 1) (y + 1 + 1) refl (omega arith) refl))
           self
           (same (from_zero a.sides (x + 1) (omega arith)) (taken_is 1 0 (x + 1) y refl (omega arith) refl)))
           (any-three (taken_by m w h x y 0)
-          (same (b.corners.entry x (omega arith)) (taken_is 0 2 x (y + 1 + 1) (omega arith) (omega arith) refl))
+          (same (from_zero b.corners x (omega arith)) (taken_is 0 2 x (y + 1 + 1) (omega arith) (omega arith) refl))
           (same (from_zero r.sides x (omega arith)) (taken_is 0 1 x (y + 1) (omega arith) refl refl))
-          (same (a.corners.entry x (omega arith)) (taken_is 0 0 x y (omega arith) (omega arith) refl)))
+          (same (from_zero a.corners x (omega arith)) (taken_is 0 0 x y (omega arith) (omega arith) refl)))
         where
           same : {u v : ℕ} {t : Bool} → u ≡ v → eqb v (size_at m (index w x y)) ≡ t → eqb u (size_at m (index w x y)) ≡ t
           same e f = ap (λ (v : ℕ). eqb v (size_at m (index w x y))) e ∙ f
 
   -- a pixel is kept as the bands say
-  pub kept_is : {above row below : List ℕ} → x < w → y < h → Band m w h y above → Band m w h (y + 1) row → Band m w h (y + 1 + 1) below
+  pub kept_is : {above row below : Band} → x < w → y < h → BandOf m w h y above → BandOf m w h (y + 1) row → BandOf m w h (y + 1 + 1) below
       → kept_in above row below x ≡ cond (kept m w h x y) 1 0
   kept_is {above} {row} {below} l k a r b = rw ((r.sizes y refl k).entry x l) (go (unlabelled_at m (index w x y)))
     where

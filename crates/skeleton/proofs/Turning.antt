@@ -10,16 +10,17 @@ use lib.ListN.{length}
 use Rattle.raster.specs.PixelsLaws.{pixels_is}
 use Rattle.raster.specs.Rows.{RowWritten}
 use Rattle.raster.proofs.Rows.{row_other}
+use Rattle.skeleton.specs.declared.Band.{Band}
 use Rattle.skeleton.specs.Skeleton.{skeleton_of}
-use Rattle.skeleton.specs.Bands.{Framed, Band, kept_in, Turning}
+use Rattle.skeleton.specs.Bands.{Framed, BandOf, kept_in, Turning}
 use Rattle.skeleton.proofs.Neighbours.{kept_is}
 
-module _ {m : List ℤ} {w h : ℕ} {out above row below : List ℕ} where
-  pub turn-none : length out ≡ h * w → Band m w h 0 above → Band m w h 1 row → Framed w below → Turning m w h 0 out above row below
+module _ {m : List ℤ} {w h : ℕ} {out : List ℕ} {above row below : Band} where
+  pub turn-none : length out ≡ h * w → BandOf m w h 0 above → BandOf m w h 1 row → Framed w below → Turning m w h 0 out above row below
   turn-none n a r f = record { long = n; rows = λ i j k l b. absurd (omega arith); bands = λ l. (a, r); framed = (a.framed, (r.framed, f)) }
 
   module _ {y : ℕ} (t : Turning m w h y out above row below) where
-    pub turn_more : {new after : List ℕ} → y < h → Band m w h (y + 1 + 1) new → RowWritten (y * w) w (kept_in above row new) out after
+    pub turn_more : {new : Band} {after : List ℕ} → y < h → BandOf m w h (y + 1 + 1) new → RowWritten (y * w) w (kept_in above row new) out after
         → Turning m w h (y + 1) after row new above
     turn_more {new} {after} l b o =
         let s = t.bands l in record {

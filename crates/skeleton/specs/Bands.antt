@@ -1,8 +1,9 @@
--- What the code works out on the way to the skeleton: a band, which holds a row of the map in three parts of 2,050 numbers.
+-- What the code works out on the way to the skeleton: a band, which holds a row of the map in three parts.
 -- Assumes nothing.
-use Rattle.std.specs.Prelude.{◌≡◌, Bool, true, false, cond, ◌&&◌, ◌||◌, List, ℕ, ◌+◌, ◌-◌, ◌*◌, ◌<◌, ◌≤◌, eqb, leb, ℤ, length, get_or}
+use Rattle.std.specs.Prelude.{◌≡◌, Bool, true, false, cond, ◌&&◌, ◌||◌, List, ℕ, ◌+◌, ◌-◌, ◌*◌, ◌<◌, eqb, leb, ℤ, length, get_or, replicate}
 use Rattle.raster.specs.Map.{size_at, unlabelled_at}
 use Rattle.raster.specs.Pixels.{index}
+use Rattle.skeleton.specs.declared.Band.{Band}
 use Rattle.skeleton.specs.Table.{g}
 use Rattle.skeleton.specs.Skeleton.{on_side, kept}
 
@@ -28,52 +29,57 @@ on_sheet w h f i j = cond (on_side w i && on_side h j) (f (index w (i - 1) (j - 
 
 -- the n numbers from `start` on are f 0, f 1, ..
 pub record Part (start n : ℕ) (f : ℕ → ℕ) (s : List ℕ) : Type 0 where
-  pub entry : (i : ℕ) → i < n → get_or s (start + i) 0 ≡ f i
+  pub entry : (i : ℕ) → i < n → get_or s (i + start) 0 ≡ f i
+
+-- 0 stands at both ends of w numbers
+pub record Ended (w : ℕ) (s : List ℕ) : Type 0 where
+  pub left : get_or s 0 0 ≡ 0
+  pub right : get_or s (w + 1) 0 ≡ 0
 
 -- 0 stands at both ends of the parts for sides and for corners
-pub record Framed (w : ℕ) (s : List ℕ) : Type 0 where
-  pub long : length s ≡ 6150
-  pub left : (k : ℕ) → k ≤ 1 → get_or s (2050 * k) 0 ≡ 0
-  pub right : (k : ℕ) → k ≤ 1 → get_or s (2050 * k + (w + 1)) 0 ≡ 0
+pub record Framed (w : ℕ) (b : Band) : Type 0 where
+  pub sides : Ended w b.sides
+  pub corners : Ended w b.corners
 
 -- every number is 0
-pub record Blank (s : List ℕ) : Type 0 where
-  pub long : length s ≡ 6150
-  pub zeros : Part 0 6150 (λ i. 0) s
+pub record Blank (b : Band) : Type 0 where
+  pub sides : b.sides ≡ replicate 2050 0
+  pub corners : b.corners ≡ replicate 2050 0
+  pub sizes : b.sizes ≡ replicate 2050 0
 
--- 0 at the ends, and in the last part the sizes of the first n columns of the row that starts at `base`
-pub record Measured (m : List ℤ) (base w n : ℕ) (s : List ℕ) : Type 0 where
-  pub framed : Framed w s
-  pub sizes : Part 4101 n (λ x. own_at m (base + x)) s
+-- 0 at the ends, and the sizes of the first n columns of the row that starts at `base`
+pub record Measured (m : List ℤ) (base w n : ℕ) (b : Band) : Type 0 where
+  pub framed : Framed w b
+  pub sizes : Part 1 n (λ x. own_at m (base + x)) b.sizes
 
--- s with what the first n columns take off, by their sizes, in the other two parts
-pub record LookedUp (w n : ℕ) (s t : List ℕ) : Type 0 where
-  pub framed : Framed w t
-  pub sizes : Part 4101 w (λ x. get_or s (4101 + x) 0) t
-  pub sides : Part 1 n (λ x. g false (counted (get_or s (4101 + x) 0))) t
-  pub corners : Part 2051 n (λ x. g true (counted (get_or s (4101 + x) 0))) t
+-- b with what the first n columns take off, by their sizes
+pub record LookedUp (w n : ℕ) (b c : Band) : Type 0 where
+  pub framed : Framed w c
+  pub sizes : c.sizes ≡ b.sizes
+  pub sides : Part 1 n (λ x. g false (counted (get_or b.sizes (x + 1) 0))) c.sides
+  pub corners : Part 1 n (λ x. g true (counted (get_or b.sizes (x + 1) 0))) c.corners
 
 -- the band of row j − 1
-pub record Band (m : List ℤ) (w h j : ℕ) (s : List ℕ) : Type 0 where
-  pub framed : Framed w s
-  pub sizes : (y : ℕ) → j ≡ y + 1 → y < h → Part 4101 w (λ x. own_at m (index w x y)) s
-  pub sides : Part 0 (w + 2) (λ i. on_sheet w h (taken_at false m) i j) s
-  pub corners : Part 2050 (w + 2) (λ i. on_sheet w h (taken_at true m) i j) s
+pub record BandOf (m : List ℤ) (w h j : ℕ) (b : Band) : Type 0 where
+  pub framed : Framed w b
+  pub sizes : (y : ℕ) → j ≡ y + 1 → y < h → Part 1 w (λ x. own_at m (index w x y)) b.sizes
+  pub sides : Part 0 (w + 2) (λ i. on_sheet w h (taken_at false m) i j) b.sides
+  pub corners : Part 0 (w + 2) (λ i. on_sheet w h (taken_at true m) i j) b.corners
 
 -- whether a neighbour takes off the pixel of column x and size s, by the bands of its row and of those beside it
-abbrev pub taken_in : (above row below : List ℕ) (x s : ℕ) → Bool
+abbrev pub taken_in : (above row below : Band) (x s : ℕ) → Bool
 taken_in above row below x s =
-    (eqb (get_or below (2050 + (x + 2)) 0) s || (eqb (get_or row (x + 2) 0) s || eqb (get_or above (2050 + (x + 2)) 0) s))
-    || ((eqb (get_or below (x + 1) 0) s || eqb (get_or above (x + 1) 0) s)
-    || (eqb (get_or below (2050 + x) 0) s || (eqb (get_or row x 0) s || eqb (get_or above (2050 + x) 0) s)))
+    (eqb (get_or below.corners (x + 2) 0) s || (eqb (get_or row.sides (x + 2) 0) s || eqb (get_or above.corners (x + 2) 0) s))
+    || ((eqb (get_or below.sides (x + 1) 0) s || eqb (get_or above.sides (x + 1) 0) s)
+    || (eqb (get_or below.corners x 0) s || (eqb (get_or row.sides x 0) s || eqb (get_or above.corners x 0) s)))
 
 -- 1 where that pixel is kept, 0 elsewhere
-abbrev pub kept_in : (above row below : List ℕ) (x : ℕ) → ℕ
-kept_in above row below x = cond (eqb (get_or row (4101 + x) 0) 0 || taken_in above row below x (get_or row (4101 + x) 0)) 0 1
+abbrev pub kept_in : (above row below : Band) (x : ℕ) → ℕ
+kept_in above row below x = cond (eqb (get_or row.sizes (x + 1) 0) 0 || taken_in above row below x (get_or row.sizes (x + 1) 0)) 0 1
 
 -- the y-th turn: the rows before row y are written, and if there is one, `above` is the band of the row before it and `row` its own
-pub record Turning (m : List ℤ) (w h y : ℕ) (out above row below : List ℕ) : Type 0 where
+pub record Turning (m : List ℤ) (w h y : ℕ) (out : List ℕ) (above row below : Band) : Type 0 where
   pub long : length out ≡ h * w
   pub rows : (i j : ℕ) → i < w → j < h → j < y → get_or out (index w i j) 0 ≡ cond (kept m w h i j) 1 0
-  pub bands : y < h → Band m w h y above × Band m w h (y + 1) row
+  pub bands : y < h → BandOf m w h y above × BandOf m w h (y + 1) row
   pub framed : Framed w above × (Framed w row × Framed w below)

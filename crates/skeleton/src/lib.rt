@@ -1,8 +1,8 @@
 // The skeleton of a map (document 01, "Skeleton").
 //
-// A band holds a row of the map in three parts: from 0 on the sizes that its pixels take off at their sides, from 2,050 on those at their corners, from
-// 4,100 on their own sizes. Column x stands at x + 1 of each part. 0 stands for a place off the sheet and for a pixel that takes nothing off, since no pixel
-// of size 0 is kept anyway. So each pixel is looked up in the tables once, and compared with its neighbours' entries with no test of the sheet's edges.
+// A band holds a row of the map in three parts: the sizes that its pixels take off at their sides, those that they take off at their corners, and their own
+// sizes. Column x stands at x + 1 of each part. 0 stands for a place off the sheet and for a pixel that takes nothing off, since no pixel of size 0 is kept
+// anyway. So each pixel is looked up in the tables once, and compared with its neighbours' entries with no test of the sheet's edges.
 //
 // A row is measured first and looked up after, since a processor measures several pixels at a time and looks up one. The sizes stand last: were they first,
 // each would be read soon after a place 8 KiB on had been written, and a processor that compares the low bits of addresses first would wait. The tables are
@@ -14,7 +14,7 @@ ghost use Rattle.std.specs.Prelude.{◌≡◌, true, false, cond, ◌||◌, ◌+
 ghost use Rattle.raster.specs.Rows.{RowWritten};
 ghost use Rattle.skeleton.specs.Skeleton.{skeleton_of};
 ghost use Rattle.skeleton.specs.Table.{g};
-ghost use Rattle.skeleton.specs.Bands.{Listed, counted, Framed, Blank, Measured, LookedUp, Band, kept_in, Turning};
+ghost use Rattle.skeleton.specs.Bands.{Listed, counted, Framed, Blank, Measured, LookedUp, BandOf, kept_in, Turning};
 
 // The tables (document 02, C-13): n − g4(n) for n from 1 to 400, a byte each, twenty to a line, in hexadecimal. As bytes of a string they keep their lines.
 const SIDES: [u8; 400] = *b"\
@@ -64,108 +64,98 @@ const CORNERS: [u8; 400] = *b"\
     \x2c\x2d\x2e\x2f\x30\x31\x32\x33\x34\x34\x35\x36\x35\x36\x31\x32\x33\x34\x35\x36\
 ";
 
-// The table for sides, with its promise.
-fn side_table() -> [u8; 400]
-    ensures { Listed false result }
-{
-    SIDES
+// Both tables, with what is known of their entries.
+#[derive(Drop)]
+struct Differences {
+    sides: [u8; 400],
+    corners: [u8; 400],
+    ghost sides_listed: { Listed false sides },
+    ghost corners_listed: { Listed true corners },
 }
 
-// The table for corners, with its promise.
-fn corner_table() -> [u8; 400]
-    ensures { Listed true result }
-{
-    CORNERS
+impl Differences {
+    fn new() -> Self {
+        Differences {
+            sides: SIDES,
+            corners: CORNERS,
+        }
+    }
+
+    // What a pixel of size n takes off at its corners, or at its sides.
+    fn taken_off<const CORNER: bool>(&self, n: u32) -> u32
+        ensures { result ≡ g CORNER (counted n) }
+    {
+        let p = place_of(n);
+        let difference = if CORNER {
+            self.corners[p]
+        } else {
+            self.sides[p]
+        };
+        (p as u32 + 1) - u32::from(difference)
+    }
 }
 
 // Where a pixel of size n is looked up; for one that takes nothing off, the first place, since size 1 takes off what has size 0.
 fn place_of(n: u32) -> usize
     ensures { (result < 400) × (result + 1 ≡ counted n) }
 {
-    if n < 1 {
-        return 0;
+    match n {
+        1..=400 => (n - 1) as usize,
+        _ => 0,
     }
-    if 400 < n {
-        return 0;
-    }
-    (n - 1) as usize
-}
-
-// What a pixel of size n takes off at its corners, or at its sides.
-fn taken_off(sides: &[u8], corners: &[u8], corner: bool, n: u32) -> u32
-    requires { Listed false sides.now × Listed true corners.now }
-    ensures { result ≡ g corner (counted n) }
-{
-    let p = place_of(n);
-    let difference = if corner { corners[p] } else { sides[p] };
-    (p as u32 + 1) - difference as u32
 }
 
 // What a band has for a pixel of size n: n, but 0 for 2^31, since an unlabelled pixel is not kept either.
 fn own_size(n: u32) -> u32
     ensures { result ≡ cond (eqb n 2147483648) 0 n }
 {
-    if n == 2147483648 {
-        return 0;
-    }
-    n
+    if n == 2147483648 { 0 } else { n }
 }
 
-// The sizes of the row that starts at `base`, in the last part of its band.
-fn measure_row(map: &[i16], base: usize, w: usize, band: &mut [u32])
-    requires w_in_bounds { (2 * (base + w) ≤ length map.now) × (w ≤ 2048) }
-    requires framed { Framed w band.old }
-    ensures { Measured map.now base w w band.new }
-{
-    for x in 0..w {
-        let n = raster::size_at(map, base + x);
-        band[4101 + x] = own_size(n);
-    }
+// A row of the map: what its pixels take off at their sides and at their corners, and their sizes. The fields lie in this order.
+#[derive(Drop)]
+#[repr(C)]
+struct Band {
+    sides: [u32; 2050],
+    corners: [u32; 2050],
+    sizes: [u32; 2050],
 }
 
-// What each pixel of a measured row takes off, in the other two parts.
-fn look_up_row(w: usize, sides: &[u8], corners: &[u8], band: &mut [u32])
-    requires w_bound { w ≤ 2048 }
-    requires listed { Listed false sides.now × (Listed true corners.now × Framed w band.old) }
-    ensures { LookedUp w w band.old band.new }
-{
-    for x in 0..w {
-        let n = band[4101 + x];
-        band[1 + x] = taken_off(sides, corners, false, n);
-        band[2051 + x] = taken_off(sides, corners, true, n);
+impl Band {
+    // All numbers 0.
+    fn new() -> Self
+        ensures { Blank result }
+    {
+        Band {
+            sides: [0; 2050],
+            corners: [0; 2050],
+            sizes: [0; 2050],
+        }
     }
-}
 
-// Sets every number to 0.
-fn clear(band: &mut [u32])
-    requires { length band.old ≡ 6150 }
-    ensures { Blank band.new }
-{
-    for i in 0..6150 {
-        band[i] = 0;
+    // The sizes of the row that starts at `base`.
+    fn measure(&mut self, map: &[i16], base: usize, w: usize)
+        requires w_in_bounds { (2 * (base + w) ≤ length map.now) × (w ≤ 2048) }
+        requires framed { Framed w self.old }
+        ensures { Measured map.now base w w self.new }
+    {
+        for x in 0..w {
+            self.sizes[x + 1] = own_size(raster::size_at(map, base + x));
+        }
     }
-}
 
-// The band of row y, which may be the one below the last.
-fn fill_band(
-    map: &[i16],
-    w: usize,
-    h: usize,
-    y: usize,
-    sides: &[u8],
-    corners: &[u8],
-    band: &mut [u32],
-)
-    requires w_bound { (w ≤ 2048) × (length map.now ≡ 2 * (h * w)) }
-    requires listed { Listed false sides.now × (Listed true corners.now × Framed w band.old) }
-    ensures { Band map.now w h (y + 1) band.new }
-{
-    if y < h {
-        measure_row(map, y * w, w, band);
-        look_up_row(w, sides, corners, band);
-        return;
+    // What each pixel of a measured row takes off.
+    fn look_up(&mut self, w: usize, tables: &Differences)
+        requires w_bound { w ≤ 2048 }
+        requires framed { Framed w self.old }
+        ensures { LookedUp w w self.old self.new }
+    {
+        for x in 0..w {
+            let n = self.sizes[x + 1];
+            self.sides[x + 1] = tables.taken_off::<false>(n);
+            self.corners[x + 1] = tables.taken_off::<true>(n);
+        }
     }
-    clear(band);
 }
 
 // Whether one of three neighbours takes off a pixel of size s; a, b and c are their entries.
@@ -176,24 +166,25 @@ fn taken(s: u32, a: u32, b: u32, c: u32) -> bool
 }
 
 // 1 where the pixel of column x is kept, 0 elsewhere, by the bands of its row and of those beside it.
-fn keep(above: &[u32], row: &[u32], below: &[u32], x: usize) -> u8
-    requires { (x < 2048) × ((length above.now ≡ 6150) × ((length row.now ≡ 6150) × (length below.now ≡ 6150))) }
+fn keep(above: &Band, row: &Band, below: &Band, x: usize) -> u8
+    requires { x < 2048 }
     ensures { result ≡ kept_in above.now row.now below.now x }
 {
-    let s = row[4101 + x];
-    let right = taken(s, below[2050 + (x + 2)], row[x + 2], above[2050 + (x + 2)]);
-    let here = (below[x + 1] == s) | (above[x + 1] == s);
-    let left = taken(s, below[2050 + x], row[x], above[2050 + x]);
-    if (s == 0) | (right | (here | left)) {
-        return 0;
-    }
-    1
+    let s = row.sizes[x + 1];
+    let right = taken(
+        s,
+        below.corners[x + 2],
+        row.sides[x + 2],
+        above.corners[x + 2],
+    );
+    let here = (below.sides[x + 1] == s) | (above.sides[x + 1] == s);
+    let left = taken(s, below.corners[x], row.sides[x], above.corners[x]);
+    u8::from(!((s == 0) | (right | (here | left))))
 }
 
 // The row of the skeleton that starts at `base`.
-fn keep_row(out: &mut [u8], base: usize, w: usize, above: &[u32], row: &[u32], below: &[u32])
-    requires w_bound { (w ≤ 2048) × (base + w ≤ length out.old) }
-    requires above_len { (length above.now ≡ 6150) × ((length row.now ≡ 6150) × (length below.now ≡ 6150)) }
+fn keep_row(out: &mut [u8], base: usize, w: usize, above: &Band, row: &Band, below: &Band)
+    requires { (w ≤ 2048) × (base + w ≤ length out.old) }
     ensures { RowWritten base w (kept_in above.now row.now below.now) out.old out.new }
 {
     for x in 0..w {
@@ -201,56 +192,57 @@ fn keep_row(out: &mut [u8], base: usize, w: usize, above: &[u32], row: &[u32], b
     }
 }
 
-// Row y of the skeleton, if there is one, by the bands of that row and of the one above; `below` becomes the band of the one below.
-fn row_turn(
-    map: &[i16],
-    out: &mut [u8],
+// What a skeleton is made of: a map of w × h pixels, and the tables.
+#[derive(Drop)]
+struct Source<'a> {
+    map: &'a [i16],
     w: usize,
     h: usize,
-    y: usize,
-    sides: &[u8],
-    corners: &[u8],
-    above: &[u32],
-    row: &[u32],
-    below: &mut [u32],
-)
-    requires w_bound { (w ≤ 2048) × (length map.now ≡ 2 * (h * w)) }
-    requires listed { Listed false sides.now × Listed true corners.now }
-    requires turning { Turning map.now w h y out.old above.now row.now below.old }
-    ensures { Turning map.now w h (y + 1) out.new row.now below.new above.now }
-{
-    if h <= y {
-        return;
-    }
-    fill_band(map, w, h, y + 1, sides, corners, below);
-    keep_row(out, y * w, w, above, row, below);
+    tables: Differences,
+    ghost sides: { (w ≤ 2048) × (h ≤ 2048) },
+    ghost whole: { length map.now ≡ 2 * (h * w) },
 }
 
-// All rows, three at a time: each of a, b and c is by turns the band above, that of the row and the one below, so that none is copied. At first a is the
-// band above the first row.
-fn keep_rows(
-    map: &[i16],
-    out: &mut [u8],
-    w: usize,
-    h: usize,
-    sides: &[u8],
-    corners: &[u8],
-    a: &mut [u32],
-    b: &mut [u32],
-    c: &mut [u32],
-)
-    requires w_bound { (w ≤ 2048) × ((h ≤ 2048) × ((length map.now ≡ 2 * (h * w)) × (length out.old ≡ h * w))) }
-    requires listed { Listed false sides.now × Listed true corners.now }
-    requires band { Band map.now w h 0 a.old × (Framed w b.old × Framed w c.old) }
-    ensures { out.new ≡ skeleton_of map.now w h }
-{
-    fill_band(map, w, h, 0, sides, corners, b);
-    let mut y = 0;
-    while y < h {
-        row_turn(map, out, w, h, y, sides, corners, a, b, c);
-        row_turn(map, out, w, h, y + 1, sides, corners, b, c, a);
-        row_turn(map, out, w, h, y + 2, sides, corners, c, a, b);
-        y += 3;
+impl Source<'_> {
+    // Makes `band` that of row y, which may be the one below the last.
+    fn fill(&self, y: usize, band: &mut Band)
+        requires { Framed self.now.w band.old }
+        ensures { BandOf self.now.map.now self.now.w self.now.h (y + 1) band.new }
+    {
+        if y < self.h {
+            band.measure(self.map, y * self.w, self.w);
+            band.look_up(self.w, &self.tables);
+        } else {
+            *band = Band::new();
+        }
+    }
+
+    // Row y of the skeleton, if there is one, by the bands of that row and of the one above; `below` becomes the band of the one below.
+    fn turn(&self, out: &mut [u8], y: usize, above: &Band, row: &Band, below: &mut Band)
+        requires { Turning self.now.map.now self.now.w self.now.h y out.old above.now row.now below.old }
+        ensures { Turning self.now.map.now self.now.w self.now.h (y + 1) out.new row.now below.new above.now }
+    {
+        if y < self.h {
+            self.fill(y + 1, below);
+            keep_row(out, y * self.w, self.w, above, row, below);
+        }
+    }
+
+    // All rows, three at a time: each of a, b and c is by turns the band above, that of the row and the one below, so that none is copied.
+    // At first a is the band above the first row.
+    fn keep_rows(&self, out: &mut [u8])
+        requires { length out.old ≡ self.now.h * self.now.w }
+        ensures { out.new ≡ skeleton_of self.now.map.now self.now.w self.now.h }
+    {
+        let mut a = Band::new();
+        let mut b = Band::new();
+        let mut c = Band::new();
+        self.fill(0, &mut b);
+        for y in (0..self.h).step_by(3) {
+            self.turn(out, y, &a, &b, &mut c);
+            self.turn(out, y + 1, &b, &c, &mut a);
+            self.turn(out, y + 2, &c, &a, &mut b);
+        }
     }
 }
 
@@ -260,10 +252,11 @@ pub fn skeleton(map: &[i16], out: &mut [u8], w: usize, h: usize)
     requires map_len { (length map.now ≡ 2 * (h * w)) × (length out.old ≡ h * w) }
     ensures { out.new ≡ skeleton_of map.now w h }
 {
-    let mut a = [0u32; 6150];
-    let mut b = [0u32; 6150];
-    let mut c = [0u32; 6150];
-    let sides = side_table();
-    let corners = corner_table();
-    keep_rows(map, out, w, h, &sides, &corners, &mut a, &mut b, &mut c);
+    let source = Source {
+        map,
+        w,
+        h,
+        tables: Differences::new(),
+    };
+    source.keep_rows(out);
 }
