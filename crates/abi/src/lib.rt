@@ -254,7 +254,7 @@ pub extern "C" fn abi_store(w: u16, h: u16, map: &[i16], bytes: &mut [i8]) -> u3
     ensures answered { result ≡ first_of (store_table w h map.now bytes.old) }
     ensures bytes_left { bytes.new ≡ on_done result (stored map.now) bytes.old }
 {
-    storage::store(w, h, map, bytes)
+    raster::answer(&storage::store(w, h, map, bytes))
 }
 
 #[unsafe(no_mangle)]
@@ -262,7 +262,7 @@ pub extern "C" fn abi_read_back(w: u16, h: u16, bytes: &[i8], map: &mut [i16]) -
     ensures answered { result ≡ first_of (read_back_table w h bytes.now map.old) }
     ensures map_left { map.new ≡ on_done result (read_back bytes.now) map.old }
 {
-    storage::read_back(w, h, bytes, map)
+    raster::answer(&storage::read_back(w, h, bytes, map))
 }
 
 // Two maps into a third.
@@ -271,7 +271,7 @@ pub extern "C" fn abi_join(w: u16, h: u16, first: &[i16], second: &[i16], target
     ensures answered { result ≡ first_of (join_table w h first.now second.now target.old) }
     ensures target_left { target.new ≡ on_done result (joined first.now second.now) target.old }
 {
-    join::join(w, h, first, second, target)
+    raster::answer(&join::join(w, h, first, second, target))
 }
 
 // The map of chamfer distances for any two weights, for the comparison: written, and true, if the weights are allowed, the sides within their limits and both
@@ -291,7 +291,8 @@ pub extern "C" fn abi_chamfer_map(
 {
     let fine = can_map(sheet, values, w, h, a, b);
     if fine {
-        chamfer::chamfer(sheet, values, w as usize, h as usize, a, b);
+        let weights = chamfer::StepWeights::new(a, b);
+        chamfer::chamfer(sheet, values, usize::from(w), usize::from(h), weights);
     }
     fine
 }
@@ -300,7 +301,7 @@ fn can_map(sheet: &[u8], values: &[u16], w: u16, h: u16, a: u16, b: u16) -> bool
     ensures { result ≡ can_map sheet.now values.now w h a b }
 {
     let n = raster::area(w, h);
-    let weights = (a <= b) & (((b as usize) <= 2 * (a as usize)) & (b <= 32));
+    let weights = (a <= b) & ((usize::from(b) <= 2 * usize::from(a)) & (b <= 32));
     let sides = raster::is_side(w) & raster::is_side(h);
     weights & (sides & ((sheet.len() == n) & (values.len() == n)))
 }

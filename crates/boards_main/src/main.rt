@@ -7,99 +7,56 @@
 
 #![tactic(auto)]
 
-ghost use Rattle.std.specs.Prelude.{◌≡◌, ◌+◌, ◌*◌, ◌≤◌, ◌<◌, length};
-ghost use Rattle.raster.specs.Vector.{Short};
-ghost use Rattle.exact.specs.Nearest.{scratch_need};
+ghost use Rattle.std.specs.Prelude.{◌≡◌, ◌*◌, ◌≤◌, ◌<◌, length};
 
+use chamfer::Draft;
 use session::Session;
-use std::io;
+use std::{fmt, io};
 
 // ---- maps and sheets as text
 
-// A component, with its sign.
-fn component(rt: &impl Print, z: i32) -> io::Result<()>
-    requires { Short z }
-{
-    if z < 0 {
-        print!(rt; "-")?;
+// The vector of a pixel, or a dash where it is unlabelled.
+#[derive(Clone, Copy)]
+struct Vector {
+    dx: i16,
+    dy: i16,
+}
+
+impl fmt::Display for Vector {
+    fn fmt<W: fmt::Write>(&self, f: &mut fmt::Formatter<W>) -> fmt::Result {
+        if (self.dx == raster::MARK) & (self.dy == raster::MARK) {
+            return f.write_str("-");
+        }
+        write!(f, "({},{})", self.dx, self.dy)
     }
-    print!(rt; "{}", raster::magnitude(z))
 }
 
-// The vector of pixel p, or a dash where it is unlabelled.
-fn vector(rt: &impl Print, map: &[i16], p: usize) -> io::Result<()>
-    requires { 2 * p + 1 < length map.now }
+// A map of width w, a row to a line.
+fn show_map(rt: &impl Print, map: &[i16], w: usize) -> io::Result<()>
+    requires { (0 < w) × (w ≤ 2048) }
 {
-    let dx = raster::dx_at(map, p);
-    let dy = raster::dy_at(map, p);
-    if raster::is_unlabelled(dx, dy) {
-        print!(rt; "-")?;
-        return Ok(());
-    }
-    print!(rt; "(")?;
-    component(rt, dx)?;
-    print!(rt; ",")?;
-    component(rt, dy)?;
-    print!(rt; ")")
-}
-
-fn space(rt: &impl Print) -> io::Result<()> {
-    print!(rt; " ")
-}
-
-fn line_end(rt: &impl Print) -> io::Result<()> {
-    println!(rt)
-}
-
-// Row y of a map of width w.
-fn row(rt: &impl Print, map: &[i16], w: usize, y: usize) -> io::Result<()>
-    requires { 2 * (y * w + w) ≤ length map.now }
-{
-    for x in 0..w {
-        space(rt)?;
-        vector(rt, map, y * w + x)?;
-    }
-    line_end(rt)
-}
-
-// A map of w × h pixels, a row to a line.
-fn show_map(rt: &impl Print, map: &[i16], w: usize, h: usize) -> io::Result<()>
-    requires { 2 * (h * w) ≤ length map.now }
-{
-    for y in 0..h {
-        row(rt, map, w, y)?;
+    for row in map.chunks_exact(2 * w) {
+        for pair in row.chunks_exact(2) {
+            let vector = Vector {
+                dx: pair[0],
+                dy: pair[1],
+            };
+            print!(rt; " {vector}")?;
+        }
+        println!(rt)?;
     }
     Ok(())
 }
 
-// The pixel at p of a sheet: a dot for 0, a hash for any other byte.
-fn pixel(rt: &impl Print, sheet: &[u8], p: usize) -> io::Result<()>
-    requires { p < length sheet.now }
+// A sheet of width w as a picture, a row to a line: a dot for 0, a hash for any other byte.
+fn show_sheet(rt: &impl Print, sheet: &[u8], w: usize) -> io::Result<()>
+    requires { 0 < w }
 {
-    if sheet[p] == 0 {
-        print!(rt; ".")?;
-    } else {
-        print!(rt; "#")?;
-    }
-    Ok(())
-}
-
-// Row y of a sheet of width w.
-fn sheet_row(rt: &impl Print, sheet: &[u8], w: usize, y: usize) -> io::Result<()>
-    requires { y * w + w ≤ length sheet.now }
-{
-    for x in 0..w {
-        pixel(rt, sheet, y * w + x)?;
-    }
-    line_end(rt)
-}
-
-// A sheet of w × h pixels as a picture, a row to a line.
-fn show_sheet(rt: &impl Print, sheet: &[u8], w: usize, h: usize) -> io::Result<()>
-    requires { h * w ≤ length sheet.now }
-{
-    for y in 0..h {
-        sheet_row(rt, sheet, w, y)?;
+    for row in sheet.chunks_exact(w) {
+        for byte in row {
+            print!(rt; "{}", if *byte == 0 { '.' } else { '#' })?;
+        }
+        println!(rt)?;
     }
     Ok(())
 }
@@ -107,133 +64,91 @@ fn show_sheet(rt: &impl Print, sheet: &[u8], w: usize, h: usize) -> io::Result<(
 // ---- the scans
 
 // One sheet, by one scan.
-fn show_scan(
-    rt: &impl Print,
-    sheet: &[u8],
-    map: &mut [i16],
-    w: usize,
-    h: usize,
-    corners: bool,
-) -> io::Result<()>
+fn show_scan(rt: &impl Print, sheet: &[u8], w: usize, h: usize, corners: bool) -> io::Result<()>
     requires w_nonzero { (0 < w) × ((w ≤ 2048) × (h ≤ 2048)) }
-    requires sheet_len { (length sheet.now ≡ h * w) × (length map.old ≡ 2 * (h * w)) }
+    requires sheet_len { (length sheet.now ≡ h * w) × (length sheet.now ≤ 112) }
 {
-    if corners {
-        println!(rt; "8SED")?;
-    } else {
-        println!(rt; "4SED")?;
-    }
+    let mut numbers = [0i16; 224];
+    let map = &mut numbers[..2 * sheet.len()];
     scan::scan(sheet, map, w, h, corners);
-    show_map(rt, map, w, h)
+    println!(rt; "{}", if corners { "8SED" } else { "4SED" })?;
+    show_map(rt, map, w)
 }
 
 fn scanned_board(rt: &impl Print) -> io::Result<()> {
     let sheet = [0, 0, 0, 1, 0, 0, 0, 0, 0, 0, 1, 0, 1, 0, 0, 0];
-    let mut map = [0i16; 32];
-    show_scan(rt, &sheet, &mut map, 4, 4, false)?;
-    show_scan(rt, &sheet, &mut map, 4, 4, true)
+    show_scan(rt, &sheet, 4, 4, false)?;
+    show_scan(rt, &sheet, 4, 4, true)
 }
 
 fn scanned_corner(rt: &impl Print) -> io::Result<()> {
     let sheet = [0, 1, 1, 0];
-    let mut map = [0i16; 8];
-    show_scan(rt, &sheet, &mut map, 2, 2, false)?;
-    show_scan(rt, &sheet, &mut map, 2, 2, true)
+    show_scan(rt, &sheet, 2, 2, false)?;
+    show_scan(rt, &sheet, 2, 2, true)
 }
 
 fn scanned_lines(rt: &impl Print) -> io::Result<()> {
     let sheet = [1, 0, 0];
-    let mut map = [0i16; 6];
-    show_scan(rt, &sheet, &mut map, 3, 1, false)?;
-    show_scan(rt, &sheet, &mut map, 3, 1, true)?;
-    show_scan(rt, &sheet, &mut map, 1, 3, false)?;
-    show_scan(rt, &sheet, &mut map, 1, 3, true)
+    show_scan(rt, &sheet, 3, 1, false)?;
+    show_scan(rt, &sheet, 3, 1, true)?;
+    show_scan(rt, &sheet, 1, 3, false)?;
+    show_scan(rt, &sheet, 1, 3, true)
 }
 
 fn scanned_bare(rt: &impl Print) -> io::Result<()> {
-    let sheet = [0, 0, 0];
-    let mut map = [0i16; 6];
-    show_scan(rt, &sheet, &mut map, 3, 1, true)
+    show_scan(rt, &[0, 0, 0], 3, 1, true)
 }
 
 // ---- maps of values
 
-// The value of pixel p, or a dash where it is unlabelled.
-fn value(rt: &impl Print, values: &[u16], p: usize) -> io::Result<()>
-    requires { p < length values.now }
+// A map of values of width w, a row to a line, with a dash for an unlabelled pixel.
+fn show_values(rt: &impl Print, values: &[u16], w: usize) -> io::Result<()>
+    requires { 0 < w }
 {
-    if chamfer::no_value_at(values, p) {
-        print!(rt; "-")?;
-        return Ok(());
-    }
-    print!(rt; "{}", values[p])
-}
-
-// Row y of a map of width w.
-fn values_row(rt: &impl Print, values: &[u16], w: usize, y: usize) -> io::Result<()>
-    requires { y * w + w ≤ length values.now }
-{
-    for x in 0..w {
-        space(rt)?;
-        value(rt, values, y * w + x)?;
-    }
-    line_end(rt)
-}
-
-// A map of w × h pixels, a row to a line.
-fn show_values(rt: &impl Print, values: &[u16], w: usize, h: usize) -> io::Result<()>
-    requires { h * w ≤ length values.now }
-{
-    for y in 0..h {
-        values_row(rt, values, w, y)?;
+    for row in values.chunks_exact(w) {
+        for value in row {
+            if *value == 65535 {
+                print!(rt; " -")?;
+            } else {
+                print!(rt; " {value}")?;
+            }
+        }
+        println!(rt)?;
     }
     Ok(())
 }
 
-// Document 01's 4 × 4 board by engine 4 city block, 5 chessboard or 6 chamfer.
-fn draft_board(rt: &impl Print, engine: u16) -> io::Result<()>
-    requires { (4 ≤ engine) × (engine ≤ 6) }
-{
+// Document 01's 4 × 4 board by an engine of draft maps.
+fn draft_board(rt: &impl Print, engine: Draft) -> io::Result<()> {
     let sheet = [0, 0, 0, 1, 0, 0, 0, 0, 0, 0, 1, 0, 1, 0, 0, 0];
     let mut values = [0u16; 16];
-    let side = chamfer::side_weight(engine);
-    let corner = chamfer::corner_weight(engine);
-    chamfer::chamfer(&sheet, &mut values, 4, 4, side, corner);
-    show_values(rt, &values, 4, 4)?;
+    chamfer::chamfer(&sheet, &mut values, 4, 4, engine.weights());
+    show_values(rt, &values, 4)?;
     println!(rt)
 }
 
 // ---- the exact map
 
 // One sheet.
-fn show_exact(
-    rt: &impl Print,
-    sheet: &[u8],
-    map: &mut [i16],
-    scratch: &mut [i16],
-    w: usize,
-    h: usize,
-) -> io::Result<()>
-    requires w_bound { (w ≤ 2048) × (h ≤ 2048) }
-    requires sheet_len { (length sheet.now ≡ h * w) × ((length map.old ≡ 2 * (h * w)) × (scratch_need w ≤ length scratch.old)) }
+fn show_exact(rt: &impl Print, sheet: &[u8], w: usize, h: usize) -> io::Result<()>
+    requires w_nonzero { (0 < w) × ((w ≤ 14) × (h ≤ 2048)) }
+    requires sheet_len { (length sheet.now ≡ h * w) × (length sheet.now ≤ 112) }
 {
-    exact::exact(sheet, map, scratch, w, h);
-    show_map(rt, map, w, h)?;
+    let mut numbers = [0i16; 224];
+    let map = &mut numbers[..2 * sheet.len()];
+    let mut scratch = [0i16; 56];
+    exact::exact(sheet, map, &mut scratch, w, h);
+    show_map(rt, map, w)?;
     println!(rt)
 }
 
 fn exact_board(rt: &impl Print) -> io::Result<()> {
     let sheet = [0, 0, 0, 1, 0, 0, 0, 0, 0, 0, 1, 0, 1, 0, 0, 0];
-    let mut map = [0i16; 32];
-    let mut scratch = [0i16; 16];
-    show_exact(rt, &sheet, &mut map, &mut scratch, 4, 4)
+    show_exact(rt, &sheet, 4, 4)
 }
 
 fn exact_row(rt: &impl Print, first: u8, last: u8) -> io::Result<()> {
-    let sheet = [first, 0, last];
-    let mut map = [0i16; 6];
-    let mut scratch = [0i16; 12];
-    show_exact(rt, &sheet, &mut map, &mut scratch, 3, 1)
+    show_exact(rt, &[first, 0, last], 3, 1)
 }
 
 fn arrow_head(rt: &impl Print) -> io::Result<()> {
@@ -241,60 +156,42 @@ fn arrow_head(rt: &impl Print) -> io::Result<()> {
     sheet[27] = 1;
     sheet[82] = 1;
     sheet[109] = 1;
-    let mut map = [0i16; 224];
-    let mut scratch = [0i16; 56];
-    show_scan(rt, &sheet, &mut map, 14, 8, true)?;
-    show_exact(rt, &sheet, &mut map, &mut scratch, 14, 8)
+    show_scan(rt, &sheet, 14, 8, true)?;
+    show_exact(rt, &sheet, 14, 8)
 }
 
 // ---- skeleton and rebuild
 
-fn picture(rt: &impl Print, sheet: &[u8], w: usize, h: usize) -> io::Result<()>
-    requires { h * w ≤ length sheet.now }
+fn picture(rt: &impl Print, sheet: &[u8], w: usize) -> io::Result<()>
+    requires { 0 < w }
 {
-    show_sheet(rt, sheet, w, h)?;
+    show_sheet(rt, sheet, w)?;
     println!(rt)
 }
 
 // The sheet, its skeleton and what is rebuilt from that.
-fn show_skeleton(
-    rt: &impl Print,
-    sheet: &[u8],
-    map: &mut [i16],
-    scratch: &mut [i16],
-    marks: &mut [u8],
-    out: &mut [u8],
-    w: usize,
-    h: usize,
-) -> io::Result<()>
-    requires w_bound { (w ≤ 2048) × (h ≤ 2048) }
-    requires sheet_len { (length sheet.now ≡ h * w) × ((length map.old ≡ 2 * (h * w)) × (scratch_need w ≤ length scratch.old)) }
-    requires marks_len { (length marks.old ≡ h * w) × (length out.old ≡ h * w) }
+fn show_skeleton(rt: &impl Print, sheet: &[u8], w: usize, h: usize) -> io::Result<()>
+    requires w_nonzero { (0 < w) × ((w ≤ 24) × (h ≤ 2048)) }
+    requires sheet_len { (length sheet.now ≡ h * w) × (length sheet.now ≤ 216) }
 {
-    exact::exact(sheet, map, scratch, w, h);
+    let n = sheet.len();
+    let mut numbers = [0i16; 432];
+    let map = &mut numbers[..2 * n];
+    let mut scratch = [0i16; 96];
+    exact::exact(sheet, map, &mut scratch, w, h);
+    let mut mark_bytes = [0u8; 216];
+    let marks = &mut mark_bytes[..n];
     skeleton::skeleton(map, marks, w, h);
+    let mut out_bytes = [0u8; 216];
+    let out = &mut out_bytes[..n];
     rebuild::rebuild(map, marks, out, w, h);
-    picture(rt, sheet, w, h)?;
-    picture(rt, marks, w, h)?;
-    picture(rt, out, w, h)
+    picture(rt, sheet, w)?;
+    picture(rt, marks, w)?;
+    picture(rt, out, w)
 }
 
 fn five_in_a_row(rt: &impl Print) -> io::Result<()> {
-    let sheet = [1, 0, 0, 0, 1];
-    let mut map = [0i16; 10];
-    let mut scratch = [0i16; 20];
-    let mut marks = [0u8; 5];
-    let mut out = [0u8; 5];
-    show_skeleton(
-        rt,
-        &sheet,
-        &mut map,
-        &mut scratch,
-        &mut marks,
-        &mut out,
-        5,
-        1,
-    )
+    show_skeleton(rt, &[1, 0, 0, 0, 1], 5, 1)
 }
 
 fn drawn(rt: &impl Print) -> io::Result<()> {
@@ -303,20 +200,7 @@ fn drawn(rt: &impl Print) -> io::Result<()> {
     raster::fill_rectangle(&mut sheet, 24, 9, 4, 2, 14, 1, 1);
     raster::fill_rectangle(&mut sheet, 24, 9, 18, 1, 4, 3, 1);
     raster::fill_rectangle(&mut sheet, 24, 9, 9, 7, 1, 1, 1);
-    let mut map = [0i16; 432];
-    let mut scratch = [0i16; 96];
-    let mut marks = [0u8; 216];
-    let mut out = [0u8; 216];
-    show_skeleton(
-        rt,
-        &sheet,
-        &mut map,
-        &mut scratch,
-        &mut marks,
-        &mut out,
-        24,
-        9,
-    )
+    show_skeleton(rt, &sheet, 24, 9)
 }
 
 // ---- a sheet of 3 × 3, copper everywhere, shrunk by q
@@ -328,18 +212,13 @@ fn shrunk_whole(rt: &impl Print, q: u32) -> io::Result<()>
     let mut map = [0i16; 18];
     let mut scratch = [0i16; 12];
     morphology::shrink(&mut sheet, &mut map, &mut scratch, 3, 3, q);
-    picture(rt, &sheet, 3, 3)
+    picture(rt, &sheet, 3)
 }
 
 // ---- the session: a sheet of 4 × 4 with one copper pixel at (3, 0), its exact map, and two cutters at (0, 0), where the size is 9
 
 fn say(rt: &impl Print, answer: u32) -> io::Result<()> {
-    if answer == 0 {
-        println!(rt; "placed")?;
-    } else {
-        println!(rt; "refused")?;
-    }
-    Ok(())
+    println!(rt; "{}", if answer == 0 { "placed" } else { "refused" })
 }
 
 fn readme(rt: &impl Print) -> io::Result<()> {
@@ -352,7 +231,7 @@ fn readme(rt: &impl Print) -> io::Result<()> {
     let built = painted
         .session
         .build(&sheet, &mut map, &mut values, &mut scratch, 1);
-    show_map(rt, &map, 4, 4)?;
+    show_map(rt, &map, 4)?;
     say(rt, built.session.place(&map, &values, 0, 0, 8).answer)?;
     say(rt, built.session.place(&map, &values, 0, 0, 9).answer)
 }
@@ -362,9 +241,9 @@ fn main(rt: HostRuntime) -> io::Result<()> {
     scanned_corner(&rt)?;
     scanned_lines(&rt)?;
     scanned_bare(&rt)?;
-    draft_board(&rt, 4)?;
-    draft_board(&rt, 5)?;
-    draft_board(&rt, 6)?;
+    draft_board(&rt, Draft::CityBlock)?;
+    draft_board(&rt, Draft::Chessboard)?;
+    draft_board(&rt, Draft::Chamfer)?;
     exact_board(&rt)?;
     exact_row(&rt, 1, 0)?;
     exact_row(&rt, 1, 1)?;

@@ -1,7 +1,7 @@
 -- What the functions say of one row. The row before it stands in a working row with a place more on either side: place 1 + x has the value of pixel x, and the
 -- first place and the one after the last pixel are unlabelled.
 -- Assumes nothing.
-use Rattle.std.specs.Prelude.{◌≡◌, Bool, cond, List, ℕ, zero, suc, ◌+◌, ◌*◌, ◌-◌, ◌≤◌, ◌<◌, min, eqb, ltb, length, get_or}
+use Rattle.std.specs.Prelude.{◌≡◌, Bool, true, false, cond, List, ℕ, zero, suc, ◌+◌, ◌*◌, ◌-◌, ◌≤◌, ◌<◌, min, eqb, ltb, length, get_or}
 use Rattle.raster.specs.Distance.{gap, Copper}
 use Rattle.raster.specs.Loop.{any_below}
 use Rattle.raster.specs.Pixels.{Mask, index}
@@ -24,6 +24,16 @@ or_copper byte v = cond (eqb byte 0) v 0
 unfoldable pub carried : (a : ℕ) → (ℕ → ℕ) → (t : ℕ) → ℕ
 carried a f zero = no_value
 carried a f (suc t) = min (f t) (carried a f t + a)
+
+-- the place of the t-th pixel of a sweep over a row of w
+abbrev pub turn : (right : Bool) → (w t : ℕ) → ℕ
+turn true w t = t
+turn false w t = w - 1 - t
+
+-- what the sweep leaves at pixel x of the row of a map that starts at base
+abbrev pub swept : (right : Bool) → (a base w : ℕ) → List ℕ → (x : ℕ) → ℕ
+swept true a base w m x = carried a (λ t. get_or m (base + t) 0) (x + 1)
+swept false a base w m x = carried a (λ t. get_or m (base + (w - 1 - t)) 0) (w - x)
 
 -- of w pixels some is above the candidate of its neighbour: g x above that of f x
 unfoldable pub steep : (a : ℕ) (f g : ℕ → ℕ) (w : ℕ) → Bool

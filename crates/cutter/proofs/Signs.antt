@@ -1,4 +1,4 @@
--- The directions: the table's rows, and what a step does to a place of a line, by its sign.
+-- The directions: how many there are, the table's rows, and what steps do to a place of a line, by their sign.
 -- Assumes nothing.
 use mathlib.Core.List.{List, [], ◌∷◌}
 use mathlib.Core.Path.{◌≡◌, refl, ap, ◌∙◌}
@@ -13,7 +13,20 @@ use mir.Syntax.{w16}
 use mir.Val.{SFits, to_z, of_z}
 use mir.ValLaws.{to_z-of_z}
 use borrow.Author.Tests.{leb-false}
-use Rattle.cutter.specs.Directions.{steps, step_right, step_down, place_after, leaves_side}
+use Rattle.cutter.specs.declared.direction.Direction.{Direction}
+use Rattle.cutter.specs.declared.direction.Direction.TheVariants.{East, SouthEast, South, SouthWest, West, NorthWest, North, NorthEast}
+use Rattle.cutter.specs.Directions.{direction_number, steps, step_right, step_down, place_after, leaves_side}
+
+-- the number of a direction is one of eight
+pub direction_known : (d : Direction) → direction_number d ≤ 7
+direction_known East = omega arith
+direction_known SouthEast = omega arith
+direction_known South = omega arith
+direction_known SouthWest = omega arith
+direction_known West = omega arith
+direction_known NorthWest = omega arith
+direction_known North = omega arith
+direction_known NorthEast = omega arith
 
 -- what the code's table of pairs holds: column 0 to the right, 1 down
 unfoldable pub read : (column direction : ℕ) → ℤ
@@ -75,8 +88,3 @@ pub leaving : (side n t : ℕ) {z d : ℤ} {r : Bool} → mag z < 32768 → z �
 leaving side n t {z} ok e r =
     let f : SFits w16 z = record { sfits = ok } in
     (simp (to_z-of_z, f) at r) ∙ ap (λ (k : ℤ). leaves_side k side n t) e
-
-pub stepped : (n t : ℕ) {z d : ℤ} {r : ℕ} → mag z < 32768 → z ≡ d → r ≡ place_after (to_z w16 (of_z w16 z)) n t → r ≡ place_after d n t
-stepped n t {z} ok e r =
-    let f : SFits w16 z = record { sfits = ok } in
-    (simp (to_z-of_z, f) at r) ∙ ap (λ (k : ℤ). place_after k n t) e

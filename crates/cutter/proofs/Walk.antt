@@ -17,10 +17,11 @@ use Rattle.raster.specs.LoopLaws.{any_false}
 use Rattle.raster.specs.Place.{in_line, is_pixel}
 use Rattle.raster.specs.Tests.{or_left, or_right}
 use Rattle.cutter.specs.declared.Cutter.{Cutter}
-use Rattle.cutter.specs.Directions.{steps, step_right, step_down, place_after, leaves_side, column_after, row_after, walk}
+use Rattle.cutter.specs.declared.direction.Direction.{Direction}
+use Rattle.cutter.specs.Directions.{direction_number, steps, step_right, step_down, place_after, leaves_side, column_after, row_after, walk}
 use Rattle.cutter.specs.Kinds.{Maps, has_pixels}
 use Rattle.cutter.specs.Gates.{leaves_sheet, OnSheet}
-use Rattle.cutter.proofs.Signs.{run_stays, between}
+use Rattle.cutter.proofs.Signs.{direction_known, run_stays, between}
 
 -- no step of the table is longer than 1: tested once, carried to every entry
 single : (d : ℕ) → d ≤ 7 → (nat_abs (step_right d) ≤ 1) × (nat_abs (step_down d) ≤ 1)
@@ -157,6 +158,16 @@ module _ (c : Cutter) (d : ℕ) (known : d ≤ 7) (across : c.x < c.width) (down
           down = run_stays (step_down d) c.height n c.y down o.1;
         };
       }
+
+-- the same of a direction that is named
+pub leaves_sheet_by : (c : Cutter) (d : Direction) (n : ℕ) → c.x < c.width → c.y < c.height
+    → leaves_side (step_right (direction_number d)) c.width n c.x || leaves_side (step_down (direction_number d)) c.height n c.y ≡ leaves_sheet c (direction_number d) n
+leaves_sheet_by c d n across down = leaves_sheet_lem c (direction_number d) (direction_known d) across down n
+
+-- and so is what it says of its end
+pub on_sheet_by : (c : Cutter) (d : Direction) (n : ℕ) (m : Maps) → c.x < c.width → c.y < c.height
+    → has_pixels c.engine (c.height * c.width) m ≡ true → leaves_sheet c (direction_number d) n ≡ false → OnSheet c m (direction_number d) n
+on_sheet_by c d n m across down held inside = on_sheet_lem c (direction_number d) (direction_known d) across down n held inside
 
 -- and so does each step on the way
 pub on_the_way : {c : Cutter} {m : Maps} {d n i : ℕ} → OnSheet c m d n → i ≤ n → OnSheet c m d i

@@ -1,6 +1,19 @@
 -- The eight directions: document 01, "Calls", run. Clockwise from east, x to the right, y down.
 -- Assumes nothing.
 use Rattle.std.specs.Prelude.{Bool, false, List, [], ◌∷◌, ℕ, zero, suc, ◌+◌, ◌-◌, leb, ltb, ℤ, pos, negsuc, ◌+ℤ◌, get_or}
+use Rattle.cutter.specs.declared.direction.Direction.{Direction}
+use Rattle.cutter.specs.declared.direction.Direction.TheVariants.{East, SouthEast, South, SouthWest, West, NorthWest, North, NorthEast}
+
+-- the number of each
+abbrev pub direction_number : Direction → ℕ
+direction_number East = 0
+direction_number SouthEast = 1
+direction_number South = 2
+direction_number SouthWest = 3
+direction_number West = 4
+direction_number NorthWest = 5
+direction_number North = 6
+direction_number NorthEast = 7
 
 -- one step of each, to the right and down
 unfoldable pub steps : List (ℤ × ℤ)

@@ -1,7 +1,7 @@
 -- The two kinds of map: document 02, C-12. The engines 1 to 3 write pairs, two signed numbers a pixel; the engines 4 to 6 write values, one number a pixel.
 -- A call reads the kind that its engine writes, and the pairs where there is no such engine.
 -- Assumes nothing.
-use Rattle.std.specs.Prelude.{Bool, cond, ◌&&◌, List, ℕ, ◌*◌, eqb, leb, ℤ, length}
+use Rattle.std.specs.Prelude.{Bool, cond, ◌&&◌, List, ℕ, ◌*◌, eqb, leb, ℤ, length, Option, None, Some}
 use Rattle.raster.specs.Map.{size_at, unlabelled_at}
 use Rattle.chamfer.specs.Engines.{no_value_at, square_at}
 
@@ -27,3 +27,7 @@ unlabelled_in e m p = cond (by_values e) (no_value_at m.values p) (unlabelled_at
 
 abbrev pub size_in : (engine : ℕ) → Maps → (p : ℕ) → ℕ
 size_in e m p = cond (by_values e) (square_at m.values p) (size_at m.pairs p)
+
+-- what a look at pixel p of the values, or of the pairs, finds: the size, if the pixel is labelled
+abbrev pub seen_by : (valued : Bool) → Maps → (p : ℕ) → Option ℕ
+seen_by v m p = cond (cond v (no_value_at m.values p) (unlabelled_at m.pairs p)) None (Some (cond v (square_at m.values p) (size_at m.pairs p)))

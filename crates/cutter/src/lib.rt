@@ -3,13 +3,19 @@
 
 #![tactic(auto)]
 
-ghost use Rattle.std.specs.Prelude.{◌≡◌, true, false, not, cond, ◌-◌, ◌*◌, ◌<◌, ◌≤◌, ltb, length};
-ghost use Rattle.raster.specs.Map.{Inside, size_at, unlabelled_at};
-ghost use Rattle.chamfer.specs.Engines.{no_value_at, square_at};
-ghost use Rattle.cutter.specs.Kinds.{maps, by_values};
-ghost use Rattle.cutter.specs.Directions.{step_right, step_down, place_after, leaves_side, column_after, row_after};
+ghost use Rattle.std.specs.Prelude.{◌≡◌, true, false, not, ◌*◌, ◌<◌, ◌≤◌, ltb, length};
+ghost use Rattle.raster.specs.Map.{Inside};
+ghost use Rattle.cutter.specs.Kinds.{by_values, seen_by};
+ghost use Rattle.cutter.specs.Lent.{held_by};
+ghost use Rattle.cutter.specs.Directions.{direction_number, column_after, row_after};
 ghost use Rattle.cutter.specs.Gates.{known_engine, gate_of, IsSight, On, may_stand, OnSheet, cutter_after, leaves_sheet, blocked};
 ghost use Rattle.cutter.specs.Closest.{nearer, closest_at, closest_along};
+
+mod direction; // the eight ways of a run
+mod engine; // what builds a map
+
+pub use direction::Direction;
+pub use engine::Engine;
 
 // A cutter of q at the pixel (x, y), over a map of width × height pixels that an engine built.
 #[derive(Clone, Copy)]
@@ -22,19 +28,19 @@ pub struct Cutter {
     pub q: u32,
 }
 
+// The maps that a call is lent, of both kinds.
+#[derive(Clone, Copy)]
+pub struct LentMaps<'a> {
+    pub pairs: &'a [i16],
+    pub values: &'a [u16],
+}
+
 // The closest approach: the least size of the labelled pixels that a cutter has met. Where it has met none the size is 0.
 #[repr(C)]
 #[derive(Clone, Copy)]
 pub struct Closest {
     pub met: bool,
     pub size: u32,
-}
-
-// What a map says of a pixel: whether it is unlabelled, and the size.
-#[derive(Clone, Copy)]
-struct Seen {
-    unlabelled: bool,
-    size: u32,
 }
 
 // What a look at pixels says: one of them does not pass the cutter; the closest approach with them.
@@ -50,48 +56,46 @@ impl Closest {
         met: false,
         size: 0,
     };
+
+    // It with one more labelled pixel, of size a.
+    #[tactic(auto, unfolding(crate::specs::Closest::nearer))]
+    fn nearer(self, a: u32) -> Closest
+        ensures { result ≡ nearer a self }
+    {
+        if self.met & (self.size <= a) {
+            return self;
+        }
+        Closest { met: true, size: a }
+    }
 }
 
 // ---- the engines and their gates
 
 // There is an engine of that number.
-pub fn is_engine(engine: u16) -> bool
-    ensures { result ≡ known_engine engine }
+pub fn is_engine(number: u16) -> bool
+    ensures { result ≡ known_engine number }
 {
-    (1 <= engine) & (engine <= 6)
+    Engine::try_from(number).is_ok()
 }
 
 // The kind of its map is values.
-pub fn by_values(engine: u16) -> bool
-    ensures { result ≡ by_values engine }
+pub fn by_values(number: u16) -> bool
+    ensures { result ≡ by_values number }
 {
-    (4 <= engine) & (engine <= 6)
+    matches!(Engine::try_from(number), Ok(Engine::Draft(_)))
 }
 
-// What its gate multiplies a size by.
-fn times_of(engine: u16) -> usize
-    ensures { (result ≡ (gate_of engine).den) × (result ≤ 144) }
+// What its gate multiplies a size by, and q. A number that names no engine has the gate of 4SED.
+fn gate_of(number: u16) -> (usize, usize)
+    ensures times { (result.0 ≡ (gate_of number).den) × (result.0 ≤ 144) }
+    ensures factor { (result.1 ≡ (gate_of number).num) × (result.1 ≤ 169) }
 {
-    if engine == 2 {
-        return 144;
+    match Engine::try_from(number) {
+        Ok(Engine::Exact) => (1, 1),
+        Ok(Engine::EightSed) => (144, 169),
+        Ok(Engine::Draft(draft)) => (1, draft.factor()),
+        Ok(Engine::FourSed) | Err(_) => (1, 2),
     }
-    1
-}
-
-// What its gate multiplies q by.
-fn factor_of(engine: u16) -> usize
-    ensures { (result ≡ (gate_of engine).num) × (result ≤ 169) }
-{
-    if by_values(engine) {
-        return chamfer::factor(engine);
-    }
-    if engine == 1 {
-        return 1;
-    }
-    if engine == 2 {
-        return 169;
-    }
-    2
 }
 
 // What a look at pixels has to know of an engine and of q, worked out once for all pixels of a run: the kind of map, and its gate, which a labelled pixel of
@@ -103,190 +107,121 @@ struct Sight {
     limit: usize,
 }
 
-fn sight_of(engine: u16, q: u32) -> Sight
-    ensures { IsSight result engine q }
-{
-    Sight {
-        values: by_values(engine),
-        times: times_of(engine),
-        limit: factor_of(engine) * (q as usize),
+impl Sight {
+    fn of(engine: u16, q: u32) -> Sight
+        ensures { IsSight result engine q }
+    {
+        let (times, factor) = gate_of(engine);
+        Sight {
+            values: by_values(engine),
+            times,
+            limit: factor * (q as usize),
+        }
     }
-}
 
-// A labelled pixel of size a passes.
-fn passes_gate(sight: Sight, a: u32) -> bool
-    requires { sight.times ≤ 144 }
-    ensures { result ≡ ltb sight.limit (sight.times * a) }
-{
-    sight.limit < sight.times * (a as usize)
+    // A labelled pixel of size a passes.
+    fn passes(self, a: u32) -> bool
+        requires { self.times ≤ 144 }
+        ensures { result ≡ ltb self.limit (self.times * a) }
+    {
+        self.limit < self.times * (a as usize)
+    }
 }
 
 // ---- what is met
 
-// The closest approach with one more labelled pixel, of size a.
-fn nearer(closest: Closest, a: u32) -> Closest
-    ensures { result ≡ nearer a closest }
-{
-    if closest.met & (closest.size <= a) {
-        return closest;
-    }
-    Closest { met: true, size: a }
-}
-
-// Pixel p of the values, or of the pairs.
-fn see(valued: bool, map: &[i16], values: &[u16], p: usize) -> Seen
-    requires { (valued ≡ true → p < length values.now) × (valued ≡ false → Inside p map.now) }
-    ensures unlabelled { result.unlabelled ≡ cond valued (no_value_at values.now p) (unlabelled_at map.now p) }
-    ensures sized { result.size ≡ cond valued (square_at values.now p) (size_at map.now p) }
+// The size of pixel p of the values, or of the pairs, if it is labelled.
+fn see(valued: bool, maps: LentMaps, p: usize) -> Option<u32>
+    requires { (valued ≡ true → p < length maps.values.now) × (valued ≡ false → Inside p maps.pairs.now) }
+    ensures { result ≡ seen_by valued (held_by maps.entry) p }
 {
     if valued {
-        return Seen {
-            unlabelled: chamfer::no_value_at(values, p),
-            size: chamfer::square_at(values, p),
-        };
+        if chamfer::no_value_at(maps.values, p) {
+            return None;
+        }
+        return Some(chamfer::square_at(maps.values, p));
     }
-    Seen {
-        unlabelled: raster::unlabelled_at(map, p),
-        size: raster::size_at(map, p),
+    if raster::unlabelled_at(maps.pairs, p) {
+        return None;
     }
+    Some(raster::size_at(maps.pairs, p))
 }
 
-// A look at the pixel under the cutter, with the sight of its engine and q. An unlabelled pixel passes, and is no approach.
-fn look_with(c: Cutter, sight: Sight, map: &[i16], values: &[u16], closest: Closest) -> Look
-    requires { On c (maps map.now values.now) × IsSight sight c.engine c.q }
-    ensures stopped { result.blocked ≡ not (may_stand c (maps map.now values.now)) }
-    ensures met { result.closest ≡ closest_at c (maps map.now values.now) closest }
-{
-    let p = (c.y as usize) * (c.width as usize) + (c.x as usize);
-    let seen = see(sight.values, map, values, p);
-    if seen.unlabelled {
-        return Look {
-            blocked: false,
-            closest,
-        };
+// ---- the cutter
+
+impl Cutter {
+    // A look at the pixel under it, with the sight of its engine and q. An unlabelled pixel passes, and is no approach.
+    fn look_with(self, sight: Sight, maps: LentMaps, closest: Closest) -> Look
+        requires { On self (held_by maps) × IsSight sight self.engine self.q }
+        ensures stopped { result.blocked ≡ not (may_stand self (held_by maps.entry)) }
+        ensures met { result.closest ≡ closest_at self (held_by maps.entry) closest }
+    {
+        let p = (self.y as usize) * (self.width as usize) + (self.x as usize);
+        match see(sight.values, maps, p) {
+            None => Look {
+                blocked: false,
+                closest,
+            },
+            Some(size) => Look {
+                blocked: !sight.passes(size),
+                closest: closest.nearer(size),
+            },
+        }
     }
-    Look {
-        blocked: !passes_gate(sight, seen.size),
-        closest: nearer(closest, seen.size),
+
+    // A look at that pixel alone.
+    pub fn look_at(self, maps: LentMaps, closest: Closest) -> Look
+        requires { On self (held_by maps) }
+        ensures stopped { result.blocked ≡ not (may_stand self (held_by maps.entry)) }
+        ensures met { result.closest ≡ closest_at self (held_by maps.entry) closest }
+    {
+        self.look_with(Sight::of(self.engine, self.q), maps, closest)
     }
-}
 
-// A look at that pixel alone.
-pub fn look_at(c: Cutter, map: &[i16], values: &[u16], closest: Closest) -> Look
-    requires { On c (maps map.now values.now) }
-    ensures stopped { result.blocked ≡ not (may_stand c (maps map.now values.now)) }
-    ensures met { result.closest ≡ closest_at c (maps map.now values.now) closest }
-{
-    look_with(c, sight_of(c.engine, c.q), map, values, closest)
-}
-
-// ---- the directions
-
-// One step right and down, clockwise from east.
-const STEPS: [[i16; 2]; 8] = [
-    [1, 0],
-    [1, 1],
-    [0, 1],
-    [-1, 1],
-    [-1, 0],
-    [-1, -1],
-    [0, -1],
-    [1, -1],
-];
-
-fn step_right(d: u16) -> i16
-    requires { d ≤ 7 }
-    ensures { result ≡ step_right d }
-{
-    STEPS[d as usize][0]
-}
-
-fn step_down(d: u16) -> i16
-    requires { d ≤ 7 }
-    ensures { result ≡ step_down d }
-{
-    STEPS[d as usize][1]
-}
-
-// t − n, not below 0.
-fn less(t: usize, n: usize) -> usize
-    ensures { result ≡ t - n }
-{
-    if t < n {
-        return 0;
+    // A step of a run of n steps ends at no pixel.
+    pub fn leaves_sheet(self, direction: Direction, n: u16) -> bool
+        requires { (self.x < self.width) × (self.y < self.height) }
+        ensures { result ≡ leaves_sheet self (direction_number direction) n }
+    {
+        let across = direction::leaves_side(direction.step_right(), self.width, n, self.x);
+        let down = direction::leaves_side(direction.step_down(), self.height, n, self.y);
+        across | down
     }
-    t - n
-}
 
-// The place t after n steps.
-fn place_after(step: i16, n: u16, t: u16) -> usize
-    ensures { result ≡ place_after step n t }
-{
-    if 0 < step {
-        return (t as usize) + (n as usize);
+    // It after n steps, which end on the sheet.
+    pub fn after(self, direction: Direction, n: u16) -> Cutter
+        requires { (column_after (direction_number direction) n self.x < self.width)
+            × (row_after (direction_number direction) n self.y < self.height) }
+        ensures { result ≡ cutter_after (direction_number direction) n self }
+    {
+        let x = direction::place_after(direction.step_right(), n, self.x);
+        let y = direction::place_after(direction.step_down(), n, self.y);
+        Cutter {
+            x: x as u16,
+            y: y as u16,
+            ..self
+        }
     }
-    if step < 0 {
-        return less(t as usize, n as usize);
+
+    // A look at each pixel of a run after its start.
+    pub fn look_along(
+        self,
+        maps: LentMaps,
+        direction: Direction,
+        count: u16,
+        mut closest: Closest,
+    ) -> Look
+        requires { OnSheet self (held_by maps) (direction_number direction) count }
+        ensures stopped { result.blocked ≡ blocked self (held_by maps.entry) (direction_number direction) count }
+        ensures met { result.closest ≡ closest_along self (held_by maps.entry) (direction_number direction) count closest }
+    {
+        let sight = Sight::of(self.engine, self.q);
+        let mut blocked = false;
+        for i in 0..count {
+            let look = self.after(direction, i + 1).look_with(sight, maps, closest);
+            blocked = look.blocked | blocked;
+            closest = look.closest;
+        }
+        Look { blocked, closest }
     }
-    t as usize
-}
-
-// They leave a line of `side` places.
-fn is_leaving(step: i16, side: u16, n: u16, t: u16) -> bool
-    ensures { result ≡ leaves_side step side n t }
-{
-    if 0 < step {
-        return (side as usize) <= (t as usize) + (n as usize);
-    }
-    if step < 0 {
-        return t < n;
-    }
-    false
-}
-
-// ---- a run
-
-// A step of a run of n steps ends at no pixel.
-pub fn leaves_sheet(c: Cutter, d: u16, n: u16) -> bool
-    requires { (d ≤ 7) × ((c.x < c.width) × (c.y < c.height)) }
-    ensures { result ≡ leaves_sheet c d n }
-{
-    let across = is_leaving(step_right(d), c.width, n, c.x);
-    let down = is_leaving(step_down(d), c.height, n, c.y);
-    across | down
-}
-
-// The cutter after n steps, which end on the sheet.
-pub fn cutter_after(mut c: Cutter, d: u16, n: u16) -> Cutter
-    requires { (d ≤ 7) × ((column_after d n c.x < c.width) × (row_after d n c.y < c.height)) }
-    ensures { result ≡ cutter_after d n c }
-{
-    let x = place_after(step_right(d), n, c.x);
-    let y = place_after(step_down(d), n, c.y);
-    c.x = x as u16;
-    c.y = y as u16;
-    c
-}
-
-// A look at each pixel of a run after its start.
-pub fn look_along(
-    c: Cutter,
-    map: &[i16],
-    values: &[u16],
-    d: u16,
-    count: u16,
-    mut closest: Closest,
-) -> Look
-    requires { OnSheet c (maps map.now values.now) d count }
-    ensures stopped { result.blocked ≡ blocked c (maps map.now values.now) d count }
-    ensures met { result.closest ≡ closest_along c (maps map.now values.now) d count closest }
-{
-    let sight = sight_of(c.engine, c.q);
-    let mut blocked = false;
-    for i in 0..count {
-        let look = look_with(cutter_after(c, d, i + 1), sight, map, values, closest);
-        blocked = look.blocked | blocked;
-        closest = look.closest;
-    }
-    Look { blocked, closest }
 }

@@ -1,8 +1,8 @@
--- Signed numbers: a component made positive, a vector's two components as one number that keeps their order, and a component by its 16 bits.
+-- Signed numbers: a component made positive, and a vector's two components as one number that keeps their order.
 -- Assumes nothing.
 use mathlib.Core.Path.{◌≡◌, refl, ap, sym, ◌∙◌}
 use mathlib.Core.Bool.{not, ◌&&◌, ◌||◌}
-use Prim.Native.Nat.{ℕ, suc, ◌+◌, ◌*◌, ◌-◌, ◌%◌, ◌<◌, ◌≤◌}
+use Prim.Native.Nat.{ℕ, suc, ◌+◌, ◌*◌, ◌-◌, ◌<◌, ◌≤◌}
 use native.Mathlib.Decide.{dec_lt}
 use native.Mathlib.Omega.{arith}
 use lib.Dec.{ltb}
@@ -12,7 +12,6 @@ use mir.Syntax.{w32}
 use mir.Val.{SFits}
 use borrow.Author.Tests.{lt-ltb, le-ltb}
 use Rattle.raster.specs.Vector.{Short}
-use Rattle.join.specs.Bits.{bits}
 use Rattle.join.specs.Joined.{left_or_above}
 
 -- ---- a component and k, which is not negative if k is large enough
@@ -40,11 +39,6 @@ raised-order (negsuc m) (negsuc n) s t = elim (dec_lt n m) [
   | yes l ↦ lt-ltb n m l ∙ sym (lt-ltb (32768 - suc m) (32768 - suc n) (omega arith))
   | no l ↦ le-ltb n m (omega arith) ∙ sym (le-ltb (32768 - suc m) (32768 - suc n) (omega arith))
 ]
-
--- the 16 bits of a component are what is left of it and 65536
-pub raised-bits : (z : ℤ) → Short z → raised 65536 z % 65536 ≡ bits z
-raised-bits (pos n) s = omega arith
-raised-bits (negsuc n) s = omega arith
 
 -- ---- the key of a vector: 65536 dx + (dy + 32768)
 

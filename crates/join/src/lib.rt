@@ -4,27 +4,36 @@
 
 ghost use Rattle.std.specs.Prelude.{◌≡◌, ◌*◌, ◌<◌, ◌≤◌, length};
 ghost use Rattle.raster.specs.Map.{Inside, dx_at, dy_at, put};
-ghost use Rattle.raster.specs.Refusal.{first_of, on_done};
+ghost use Rattle.raster.specs.Refusal.{first_of, on_done, answer_of};
 ghost use Rattle.raster.specs.Vector.{Short};
-ghost use Rattle.join.specs.Bits.{bits, from_bits, word_dx, word_dy};
+ghost use Rattle.join.specs.Bits.{word_dx, word_dy};
 ghost use Rattle.join.specs.Joined.{left_or_above, second_taken, taken_from, joined, join_table};
+
+use raster::Refusal;
 
 // Joins two maps of w × h pixels: at each pixel the labelled vector, of two labelled ones the smaller, among equals that of the smaller dx, then of the smaller
 // dy. Refusals: 11, a side; 12, the length of a slice.
-pub fn join(w: u16, h: u16, first: &[i16], second: &[i16], target: &mut [i16]) -> u32
-    ensures answered { result ≡ first_of (join_table w h first.now second.now target.old) }
-    ensures target_left { target.new ≡ on_done result (joined first.now second.now) target.old }
+#[tactic(auto, unfolding(crate::specs::Joined::join_table, raster::specs::Refusal::first_of))]
+pub fn join(
+    w: u16,
+    h: u16,
+    first: &[i16],
+    second: &[i16],
+    target: &mut [i16],
+) -> Result<(), Refusal>
+    ensures answered { answer_of result ≡ first_of (join_table w h first.now second.now target.old) }
+    ensures target_left { target.new ≡ on_done (answer_of result) (joined first.now second.now) target.old }
 {
     if !(raster::is_side(w) & raster::is_side(h)) {
-        return 11;
+        return Err(Refusal::Side);
     }
     let pixels = raster::area(w, h);
     let n = 2 * pixels;
     if !((first.len() == n) & ((second.len() == n) & (target.len() == n))) {
-        return 12;
+        return Err(Refusal::Length);
     }
     join_pixels(first, second, target, pixels);
-    0
+    Ok(())
 }
 
 // Joins the n pixels of two maps.
@@ -66,7 +75,7 @@ fn takes_second(first: &[i16], second: &[i16], p: usize) -> bool
 }
 
 // Whether ax is smaller than bx, or the same and ay smaller than by. Each pair is compared as one number, since ay + 32768 and by + 32768 are below 65536 and
-// not negative.
+// not negative: two comparisons, or the order of tuples, take more time in the loop over pixels.
 fn is_left_or_above(ax: i32, ay: i32, bx: i32, by: i32) -> bool
     requires { (Short ax × Short ay) × (Short bx × Short by) }
     ensures { result ≡ left_or_above ax ay bx by }
@@ -81,32 +90,15 @@ fn word_at(map: &[i16], p: usize) -> u32
     requires { Inside p map.now }
     ensures { (word_dx result ≡ dx_at map.now p) × (word_dy result ≡ dy_at map.now p) }
 {
-    to_bits(raster::dx_at(map, p)) + 65536 * to_bits(raster::dy_at(map, p))
+    u32::from(map[2 * p].cast_unsigned()) + 65536 * u32::from(map[2 * p + 1].cast_unsigned())
 }
 
 // Writes the vector of a word at pixel p.
+#[tactic(auto, unfolding(raster::specs::Map::put))]
 fn put_word(map: &mut [i16], p: usize, word: u32)
     requires { Inside p map.old }
     ensures { map.new ≡ put p (word_dx word) (word_dy word) map.old }
 {
-    raster::put_at(map, p, from_bits(word % 65536), from_bits(word / 65536));
-}
-
-// The 16 bits of a component.
-fn to_bits(z: i32) -> u32
-    requires { Short z }
-    ensures { (result ≡ bits z) × (result < 65536) }
-{
-    (z + 65536) as u32 % 65536
-}
-
-// The component that has these bits.
-fn from_bits(n: u32) -> i32
-    requires { n < 65536 }
-    ensures { (result ≡ from_bits n) × Short result }
-{
-    if n < 32768 {
-        return n as i32;
-    }
-    n as i32 - 65536
+    map[2 * p] = ((word % 65536) as u16).cast_signed();
+    map[2 * p + 1] = ((word / 65536) as u16).cast_signed();
 }

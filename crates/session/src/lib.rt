@@ -1,18 +1,19 @@
 // The session (document 01, and document 02, C-11, C-12 and C-19): every call takes it by value and hands it back with an answer number, 0 if it was done. No
-// call asks anything of its caller: bad input gets its number, and a refusal changes nothing.
+// call asks anything of its caller: bad input gets its number, and a refusal changes nothing. Behind each call stands a function that says the same by a
+// `Result`: the session that the call leaves, or why it is refused.
 
 #![tactic(auto)]
 
-ghost use Rattle.std.specs.Prelude.{◌≡◌, cond, ◌&&◌, ◌<◌, ◌≤◌, eqb};
+ghost use Rattle.std.specs.Prelude.{◌≡◌, cond, ◌&&◌, eqb};
+ghost use Rattle.std.specs.Result.{result_unwrap_or};
 ghost use Rattle.raster.specs.Map.{unmapped};
-ghost use Rattle.raster.specs.Refusal.{first_of, on_done};
+ghost use Rattle.raster.specs.Refusal.{first_of, on_done, answer_of};
 ghost use Rattle.raster.specs.Sheet.{bare};
 ghost use Rattle.morphology.specs.Resize.{expanded, shrunk};
 ghost use Rattle.rebuild.specs.Rebuild.{rebuilt};
 ghost use Rattle.skeleton.specs.Skeleton.{skeleton_of};
 ghost use Rattle.cutter.specs.Kinds.{maps};
-ghost use Rattle.cutter.specs.Directions.{column_after, row_after};
-ghost use Rattle.session.specs.State.{fresh, opened_as, stale, built_by, down_at};
+ghost use Rattle.session.specs.State.{fresh, opened_as, stale, built_by};
 ghost use Rattle.session.specs.Maps.{pairs_built, values_built};
 ghost use Rattle.session.specs.Refusals.{
   open_table,
@@ -33,14 +34,15 @@ ghost use Rattle.session.specs.Calls.{
   lift_session,
   distances_by,
   rows_by,
-  has_row,
   map_row,
 };
 
 mod state; // which sessions are sound, and how one changes
-mod refusals; // the answers
+mod refusals; // why a call is refused
+mod calls; // what a call does, by a result
 
-use cutter::Closest;
+use cutter::{Closest, LentMaps};
+use raster::Refusal;
 
 // What a session records.
 #[repr(C)]
@@ -75,92 +77,6 @@ pub struct Probed {
     pub session: Session,
 }
 
-// The session that a call hands back: `done` on 0, the one that came, s, otherwise.
-fn replied(answer: u32, done: Session, s: Session) -> Reply
-    ensures answered { result.answer ≡ answer }
-    ensures handed_back { result.session ≡ on_done answer done s }
-{
-    if answer == 0 {
-        return Reply {
-            answer,
-            session: done,
-        };
-    }
-    Reply { answer, session: s }
-}
-
-// The map has a row y.
-fn has_row(s: Session, map: &[i16], y: u16) -> bool
-    ensures { result ≡ has_row s map.now y }
-{
-    state::is_active(s) & ((y < s.height) & refusals::is_map(s, map))
-}
-
-// Writes v in a rectangle, unless the answer says otherwise.
-fn fill(s: Session, sheet: &mut [u8], x: u16, y: u16, cols: u16, rows: u16, v: u8) -> u32
-    ensures answered { result ≡ first_of (fill_table s sheet.old x y cols rows) }
-    ensures sheet_left { sheet.new ≡ on_done result (filled_by s x y cols rows v sheet.old) sheet.old }
-{
-    let answer = refusals::fill_answer(s, sheet, x, y, cols, rows);
-    if answer == 0 {
-        raster::fill_rectangle(
-            sheet,
-            s.width as usize,
-            s.height as usize,
-            x as usize,
-            y as usize,
-            cols as usize,
-            rows as usize,
-            v,
-        );
-        return answer;
-    }
-    answer
-}
-
-// Writes the engine's map. A scan that is called from two places is not compiled into this function, whose frame would then hold the scan's working row
-// while exact runs.
-fn write_map(
-    s: Session,
-    sheet: &[u8],
-    map: &mut [i16],
-    values: &mut [u16],
-    scratch: &mut [i16],
-    engine: u16,
-)
-    requires { first_of (build_table s sheet.now (maps map.old values.old) scratch.old engine) ≡ 0 }
-    ensures map_left { map.new ≡ pairs_built s sheet.now engine map.old }
-    ensures values_left { values.new ≡ values_built s sheet.now engine values.old }
-    ensures scratch_left { scratch.new ≡ cond (eqb engine 1) (scratch_by s scratch.old) scratch.old }
-{
-    let w = s.width as usize;
-    let h = s.height as usize;
-    if cutter::by_values(engine) {
-        let side = chamfer::side_weight(engine);
-        let corner = chamfer::corner_weight(engine);
-        chamfer::chamfer(sheet, values, w, h, side, corner);
-        return;
-    }
-    if engine == 1 {
-        exact::exact(sheet, map, scratch, w, h);
-        return;
-    }
-    if engine == 2 {
-        scan::scan(sheet, map, w, h, true);
-        return;
-    }
-    scan::scan(sheet, map, w, h, false);
-}
-
-// The session with its cutter where the run ends, and the closest approach.
-fn run_to(s: Session, d: u16, count: u16, closest: Closest) -> Session
-    requires { (d ≤ 7) × ((column_after d count s.x < s.width) × (row_after d count s.y < s.height)) }
-    ensures { result ≡ down_at (column_after d count s.x) (row_after d count s.y) s.q closest s }
-{
-    let c = cutter::cutter_after(state::own_cutter(s), d, count);
-    state::down_at(s, c.x, c.y, c.q, closest)
-}
-
 impl Session {
     // Nothing open, map not current, cutter up.
     pub const FRESH: Session = Session {
@@ -192,18 +108,25 @@ impl Session {
         Session::FRESH
     }
 
+    // What a call hands back: the session that it leaves, or this one if it is refused.
+    fn reply(self, done: Result<Session, Refusal>) -> Reply
+        ensures answered { result.answer ≡ answer_of done }
+        ensures handed_back { result.session ≡ result_unwrap_or done self }
+    {
+        Reply {
+            answer: raster::answer(&done),
+            session: done.unwrap_or(self),
+        }
+    }
+
     // Opens a sheet of w × h pixels: it is cleared, the map not current, the cutter up.
     pub fn open_sheet(mut self, sheet: &mut [u8], w: u16, h: u16) -> Reply
         ensures answered { result.answer ≡ first_of (open_table sheet.old w h) }
         ensures handed_back { result.session ≡ on_done result.answer (opened_as w h) self }
         ensures sheet_left { sheet.new ≡ on_done result.answer (bare sheet.old) sheet.old }
     {
-        let answer = refusals::open_answer(sheet, w, h);
-        let reply = replied(answer, state::opened_as(w, h), self);
-        if answer == 0 {
-            raster::clear_sheet(sheet);
-        }
-        reply
+        let done = Session::try_open(sheet, w, h);
+        self.reply(done)
     }
 
     // Writes 1 in the rectangle of cols × rows pixels at (x, y); the map is not current then, the cutter up.
@@ -212,8 +135,8 @@ impl Session {
         ensures handed_back { result.session ≡ on_done result.answer (stale self) self }
         ensures sheet_left { sheet.new ≡ on_done result.answer (filled_by self x y cols rows 1 sheet.old) sheet.old }
     {
-        let answer = fill(self, sheet, x, y, cols, rows, 1);
-        replied(answer, state::stale_of(self), self)
+        let done = self.try_fill(sheet, x, y, cols, rows, 1);
+        self.reply(done)
     }
 
     // Writes 0 there; otherwise as paint.
@@ -222,8 +145,8 @@ impl Session {
         ensures handed_back { result.session ≡ on_done result.answer (stale self) self }
         ensures sheet_left { sheet.new ≡ on_done result.answer (filled_by self x y cols rows 0 sheet.old) sheet.old }
     {
-        let answer = fill(self, sheet, x, y, cols, rows, 0);
-        replied(answer, state::stale_of(self), self)
+        let done = self.try_fill(sheet, x, y, cols, rows, 0);
+        self.reply(done)
     }
 
     // Builds the map of pairs with engine 1 exact, 2 8SED or 3 4SED, or the map of values with 4 city block, 5 chessboard or 6 chamfer; it is current then,
@@ -245,12 +168,8 @@ impl Session {
         ensures scratch_left { scratch.new
             ≡ cond (eqb result.answer 0 && eqb engine 1) (scratch_by self scratch.old) scratch.old }
     {
-        let answer = refusals::build_answer(self, sheet, map, values, scratch, engine);
-        let reply = replied(answer, state::built_by(self, engine), self);
-        if answer == 0 {
-            write_map(self, sheet, map, values, scratch, engine);
-        }
-        reply
+        let done = self.try_build(sheet, map, values, scratch, engine);
+        self.reply(done)
     }
 
     // Brings the cutter down at (x, y) with squared radius q, also where it was down before; the closest approach is then that pixel's size. It reads the kind
@@ -260,17 +179,8 @@ impl Session {
         ensures handed_back { result.session
             ≡ on_done result.answer (place_session self (maps map.now values.now) x y q) self }
     {
-        let refusal = refusals::place_refusal(self, map, values, x, y, q);
-        if refusal != 0 {
-            return Reply {
-                answer: refusal,
-                session: self,
-            };
-        }
-        let none = Closest::NONE;
-        let look = cutter::look_at(state::cutter_of(self, x, y, q), map, values, none);
-        let placed = state::down_at(self, x, y, q, look.closest);
-        replied(refusals::gate_answer(look.blocked), placed, self)
+        let maps = LentMaps { pairs: map, values };
+        self.reply(self.try_place(maps, x, y, q))
     }
 
     // Moves the lowered cutter by `count` steps, whole or not at all; its pixels count for the closest approach. It reads the kind of map that was built last.
@@ -279,17 +189,8 @@ impl Session {
         ensures handed_back { result.session
             ≡ on_done result.answer (run_session self (maps map.now values.now) direction count) self }
     {
-        let refusal = refusals::run_refusal(self, map, values, direction, count);
-        if refusal != 0 {
-            return Reply {
-                answer: refusal,
-                session: self,
-            };
-        }
-        let own = state::own_cutter(self);
-        let look = cutter::look_along(own, map, values, direction, count, self.closest);
-        let moved = run_to(self, direction, count, look.closest);
-        replied(refusals::gate_answer(look.blocked), moved, self)
+        let maps = LentMaps { pairs: map, values };
+        self.reply(self.try_run(maps, direction, count))
     }
 
     // Lifts the cutter, and keeps the closest approach; a session that is not sound becomes a fresh one.
@@ -297,15 +198,13 @@ impl Session {
         ensures answered { result.answer ≡ 0 }
         ensures handed_back { result.session ≡ lift_session self }
     {
-        if state::is_sound(self) {
-            return Reply {
-                answer: 0,
-                session: state::up_of(self),
-            };
-        }
         Reply {
             answer: 0,
-            session: Session::fresh(),
+            session: if self.is_sound() {
+                self.up()
+            } else {
+                Session::FRESH
+            },
         }
     }
 
@@ -318,19 +217,8 @@ impl Session {
         ensures map_left { map.new ≡ on_done result.answer (unmapped map.old) map.old }
         ensures scratch_left { scratch.new ≡ on_done result.answer (scratch_by self scratch.old) scratch.old }
     {
-        let answer = refusals::resize_answer(self, sheet, map, scratch, q);
-        let reply = replied(answer, state::stale_of(self), self);
-        if answer == 0 {
-            morphology::expand(
-                sheet,
-                map,
-                scratch,
-                self.width as usize,
-                self.height as usize,
-                q,
-            );
-        }
-        reply
+        let done = self.try_expand(sheet, map, scratch, q);
+        self.reply(done)
     }
 
     // Copper stays where no bare pixel of the sheet and no place off it is within squared distance q.
@@ -342,19 +230,8 @@ impl Session {
         ensures map_left { map.new ≡ on_done result.answer (unmapped map.old) map.old }
         ensures scratch_left { scratch.new ≡ on_done result.answer (scratch_by self scratch.old) scratch.old }
     {
-        let answer = refusals::resize_answer(self, sheet, map, scratch, q);
-        let reply = replied(answer, state::stale_of(self), self);
-        if answer == 0 {
-            morphology::shrink(
-                sheet,
-                map,
-                scratch,
-                self.width as usize,
-                self.height as usize,
-                q,
-            );
-        }
-        reply
+        let done = self.try_shrink(sheet, map, scratch, q);
+        self.reply(done)
     }
 
     // Writes 1 in `out` at each pixel of the exact map that its skeleton keeps, 0 elsewhere.
@@ -363,15 +240,8 @@ impl Session {
         ensures handed_back { result.session ≡ self }
         ensures out_left { out.new ≡ on_done result.answer (skeleton_of map.now self.width self.height) out.old }
     {
-        let wrong = out.len() != refusals::pixels_of(self);
-        let answer = refusals::read_answer(self, map, wrong);
-        if answer == 0 {
-            skeleton::skeleton(map, out, self.width as usize, self.height as usize);
-        }
-        Reply {
-            answer,
-            session: self,
-        }
+        let done = self.try_skeleton(map, out);
+        self.reply(done)
     }
 
     // Writes 1 in `out` at each pixel that the disk of a marked pixel of the exact map covers, 0 elsewhere.
@@ -381,16 +251,8 @@ impl Session {
         ensures out_left { out.new
             ≡ on_done result.answer (rebuilt map.now self.width self.height marks.now) out.old }
     {
-        let n = refusals::pixels_of(self);
-        let wrong = (marks.len() != n) | (out.len() != n);
-        let answer = refusals::read_answer(self, map, wrong);
-        if answer == 0 {
-            rebuild::rebuild(map, marks, out, self.width as usize, self.height as usize);
-        }
-        Reply {
-            answer,
-            session: self,
-        }
+        let done = self.try_rebuild(map, marks, out);
+        self.reply(done)
     }
 
     // Writes the true squared distance of each point in `out`, 4,294,967,295 without copper. Points are pairs, x then y, sorted by row. No map is needed.
@@ -409,20 +271,10 @@ impl Session {
             ≡ on_done result.answer (distances_by self sheet.now points.now out.old) out.old }
         ensures scratch_left { scratch.new ≡ on_done result.answer (scratch_by self scratch.old) scratch.old }
     {
-        let answer = refusals::probe_answer(self, sheet, points, scratch, out);
-        if answer != 0 {
-            return Probed {
-                answer,
-                rows: 0,
-                session: self,
-            };
-        }
-        let w = self.width as usize;
-        let h = self.height as usize;
-        let rows = probe::probe(sheet, points, scratch, out, w, h);
+        let done = self.try_probe(sheet, points, scratch, out);
         Probed {
-            answer,
-            rows,
+            answer: raster::answer(&done),
+            rows: done.unwrap_or(0),
             session: self,
         }
     }
@@ -431,11 +283,11 @@ impl Session {
     pub fn map_row(self, map: &[i16], y: u16) -> &[i16]
         ensures { result.now ≡ map_row self map.now y }
     {
-        if !has_row(self, map, y) {
-            return &map[0..0];
-        }
         let w = self.width as usize;
-        let from = 2 * ((y as usize) * w);
+        if !self.has_row(map, y) {
+            return &map[..0];
+        }
+        let from = 2 * (usize::from(y) * w);
         &map[from..from + 2 * w]
     }
 }

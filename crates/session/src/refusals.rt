@@ -1,8 +1,13 @@
-// The answers: each function reads the table of its name in specs/Refusals. Of place and run there is one for the rows that look at numbers and lengths alone,
-// and one for the last, which is told what the look at their pixels has found.
-ghost use Rattle.std.specs.Prelude.{◌≡◌, cond, ◌*◌};
-ghost use Rattle.raster.specs.Refusal.{first_of};
-ghost use Rattle.cutter.specs.Kinds.{maps, has_pixels};
+// Why a call is refused, if it is: each check reads the table of its name in specs/Refusals. What a check works out on the way, as the engine of a number, it
+// hands on.
+ghost use Rattle.std.specs.Prelude.{◌≡◌, cond, ◌*◌, IfOk};
+ghost use Rattle.raster.specs.Refusal.{first_of, answer_of};
+ghost use Rattle.cutter.specs.Kinds.{has_pixels};
+ghost use Rattle.cutter.specs.Lent.{held_by};
+ghost use Rattle.cutter.specs.Directions.{direction_number};
+ghost use Rattle.cutter.specs.Numbers.{engine_number};
+ghost use Rattle.cutter.specs.Closest.{unmet, closest_at, closest_along};
+ghost use Rattle.session.specs.State.{cutter_of, own_cutter};
 ghost use Rattle.session.specs.Refusals.{
   is_map,
   open_table,
@@ -11,208 +16,248 @@ ghost use Rattle.session.specs.Refusals.{
   read_table,
   probe_table,
   build_table,
-  place_rows,
-  run_rows,
+  place_table,
+  run_table,
 };
 
-use crate::{Session, state};
-
-pub fn pixels_of(s: Session) -> usize
-    ensures { result ≡ s.height * s.width }
-{
-    raster::area(s.width, s.height)
-}
-
-pub fn is_map(s: Session, map: &[i16]) -> bool
-    ensures { result ≡ is_map s map.now }
-{
-    map.len() == 2 * pixels_of(s)
-}
-
-// A map of the session's pixels, of the kind that the engine writes.
-pub fn is_map_by(engine: u16, s: Session, map: &[i16], values: &[u16]) -> bool
-    ensures { result ≡ has_pixels engine (s.height * s.width) (maps map.now values.now) }
-{
-    if cutter::by_values(engine) {
-        return values.len() == pixels_of(s);
-    }
-    is_map(s, map)
-}
+use crate::Session;
+use cutter::{Closest, Direction, Engine, LentMaps, Look};
+use raster::Refusal;
 
 #[tactic(auto, unfolding(crate::specs::Refusals::open_table, raster::specs::Refusal::first_of))]
-pub fn open_answer(sheet: &[u8], w: u16, h: u16) -> u32
-    ensures { result ≡ first_of (open_table sheet.now w h) }
+pub fn check_open(sheet: &[u8], w: u16, h: u16) -> Result<(), Refusal>
+    ensures { answer_of result ≡ first_of (open_table sheet.now w h) }
 {
     if !(raster::is_side(w) & raster::is_side(h)) {
-        return 11;
+        return Err(Refusal::Side);
     }
     if sheet.len() != raster::area(w, h) {
-        return 12;
+        return Err(Refusal::Length);
     }
-    0
+    Ok(())
 }
 
-#[tactic(auto, unfolding(crate::specs::Refusals::fill_table, raster::specs::Refusal::first_of))]
-pub fn fill_answer(s: Session, sheet: &[u8], x: u16, y: u16, cols: u16, rows: u16) -> u32
-    ensures { result ≡ first_of (fill_table s sheet.now x y cols rows) }
+// The last row of place and run: what the look at their pixels says. The closest approach, if none is too near.
+pub fn check_gate(look: Look) -> Result<Closest, Refusal>
+    ensures answered { answer_of result ≡ cond look.blocked 34 0 }
+    ensures passed { IfOk result (λ closest. closest ≡ look.closest) }
 {
-    if !state::is_active(s) {
-        return 30;
+    if look.blocked {
+        return Err(Refusal::TooNear);
     }
-    if sheet.len() != pixels_of(s) {
-        return 12;
-    }
-    let empty = (cols == 0) | (rows == 0);
-    let across = (s.width as usize) < (x as usize) + (cols as usize);
-    let down = (s.height as usize) < (y as usize) + (rows as usize);
-    if empty | (across | down) {
-        return 13;
-    }
-    0
+    Ok(look.closest)
 }
 
-#[tactic(auto, unfolding(crate::specs::Refusals::resize_table, crate::specs::Refusals::resize_table_by, raster::specs::Refusal::first_of))]
-pub fn resize_answer(s: Session, sheet: &[u8], map: &[i16], scratch: &[i16], q: u32) -> u32
-    ensures { result ≡ first_of (resize_table s sheet.now map.now scratch.now q) }
-{
-    if !state::is_active(s) {
-        return 30;
+impl Session {
+    // The pixels of its sheet.
+    pub(crate) fn pixels(self) -> usize
+        ensures { result ≡ self.height * self.width }
+    {
+        raster::area(self.width, self.height)
     }
-    let need = exact::scratch_need(s.width);
-    let n = pixels_of(s);
-    if (sheet.len() != n) | (!is_map(s, map) | (scratch.len() < need)) {
-        return 12;
-    }
-    if Session::MAX_Q < q {
-        return 15;
-    }
-    0
-}
 
-#[tactic(auto, unfolding(crate::specs::Refusals::read_table, raster::specs::Refusal::first_of))]
-pub fn read_answer(s: Session, map: &[i16], wrong: bool) -> u32
-    ensures { result ≡ first_of (read_table s map.now wrong) }
-{
-    if !state::is_active(s) {
-        return 30;
+    // A slice of two numbers a pixel.
+    pub(crate) fn is_map(self, map: &[i16]) -> bool
+        ensures { result ≡ is_map self map.now }
+    {
+        map.len() == 2 * self.pixels()
     }
-    if !is_map(s, map) | wrong {
-        return 12;
-    }
-    if !s.current {
-        return 31;
-    }
-    if s.engine != 1 {
-        return 36;
-    }
-    if !raster::has_copper(map, pixels_of(s)) {
-        return 37;
-    }
-    0
-}
 
-#[tactic(auto, unfolding(crate::specs::Refusals::probe_table, raster::specs::Refusal::first_of))]
-pub fn probe_answer(s: Session, sheet: &[u8], points: &[u16], scratch: &[i16], out: &[u32]) -> u32
-    ensures { result ≡ first_of (probe_table s sheet.now points.now scratch.now out.now) }
-{
-    if !state::is_active(s) {
-        return 30;
+    // A map of its pixels, of the kind that the engine writes.
+    fn is_map_by(self, engine: u16, maps: LentMaps) -> bool
+        ensures { result ≡ has_pixels engine (self.height * self.width) (held_by maps.entry) }
+    {
+        if cutter::by_values(engine) {
+            return maps.values.len() == self.pixels();
+        }
+        self.is_map(maps.pairs)
     }
-    let need = exact::scratch_need(s.width);
-    let pixels = pixels_of(s);
-    let n = out.len();
-    if (sheet.len() != pixels) | ((scratch.len() < need) | (points.len() != 2 * n)) {
-        return 12;
-    }
-    let off = probe::has_point_off(points, n, s.width as usize, s.height as usize);
-    let falls = probe::has_falling_row(points, n);
-    if off {
-        return 16;
-    }
-    if falls {
-        return 43;
-    }
-    0
-}
 
-#[tactic(auto, unfolding(crate::specs::Refusals::build_table, crate::specs::Refusals::build_table_by, raster::specs::Refusal::first_of))]
-pub fn build_answer(
-    s: Session,
-    sheet: &[u8],
-    map: &[i16],
-    values: &[u16],
-    scratch: &[i16],
-    engine: u16,
-) -> u32
-    ensures { result ≡ first_of (build_table s sheet.now (maps map.now values.now) scratch.now engine) }
-{
-    if !state::is_active(s) {
-        return 30;
+    #[tactic(auto, unfolding(crate::specs::Refusals::fill_table, raster::specs::Refusal::first_of))]
+    pub(crate) fn check_fill(
+        self,
+        sheet: &[u8],
+        x: u16,
+        y: u16,
+        cols: u16,
+        rows: u16,
+    ) -> Result<(), Refusal>
+        ensures { answer_of result ≡ first_of (fill_table self sheet.now x y cols rows) }
+    {
+        if !self.is_active() {
+            return Err(Refusal::NotOpen);
+        }
+        if sheet.len() != self.pixels() {
+            return Err(Refusal::Length);
+        }
+        let empty = (cols == 0) | (rows == 0);
+        let across = usize::from(self.width) < usize::from(x) + usize::from(cols);
+        let down = usize::from(self.height) < usize::from(y) + usize::from(rows);
+        if empty | (across | down) {
+            return Err(Refusal::Rectangle);
+        }
+        Ok(())
     }
-    let need = exact::scratch_need(s.width);
-    let n = pixels_of(s);
-    let short = (engine == 1) & (scratch.len() < need);
-    let slices = (sheet.len() != n) | (!is_map_by(engine, s, map, values) | short);
-    let unknown = !cutter::is_engine(engine);
-    if slices {
-        return 12;
-    }
-    if unknown {
-        return 14;
-    }
-    0
-}
 
-#[tactic(auto, unfolding(crate::specs::Refusals::place_rows, raster::specs::Refusal::first_of))]
-pub fn place_refusal(s: Session, map: &[i16], values: &[u16], x: u16, y: u16, q: u32) -> u32
-    ensures { result ≡ first_of (place_rows s (maps map.now values.now) x y q) }
-{
-    if !state::is_active(s) {
-        return 30;
+    #[tactic(auto, unfolding(crate::specs::Refusals::resize_table, crate::specs::Refusals::resize_table_by, raster::specs::Refusal::first_of))]
+    pub(crate) fn check_resize(
+        self,
+        sheet: &[u8],
+        map: &[i16],
+        scratch: &[i16],
+        q: u32,
+    ) -> Result<(), Refusal>
+        ensures { answer_of result ≡ first_of (resize_table self sheet.now map.now scratch.now q) }
+    {
+        if !self.is_active() {
+            return Err(Refusal::NotOpen);
+        }
+        let need = exact::scratch_need(self.width);
+        if (sheet.len() != self.pixels()) | (!self.is_map(map) | (scratch.len() < need)) {
+            return Err(Refusal::Length);
+        }
+        if Session::MAX_Q < q {
+            return Err(Refusal::TooWide);
+        }
+        Ok(())
     }
-    if !is_map_by(s.engine, s, map, values) {
-        return 12;
-    }
-    if Session::MAX_Q < q {
-        return 15;
-    }
-    if (s.width <= x) | (s.height <= y) {
-        return 16;
-    }
-    if !s.current {
-        return 31;
-    }
-    0
-}
 
-#[tactic(auto, unfolding(crate::specs::Refusals::run_rows, raster::specs::Refusal::first_of))]
-pub fn run_refusal(s: Session, map: &[i16], values: &[u16], d: u16, n: u16) -> u32
-    ensures { result ≡ first_of (run_rows s (maps map.now values.now) d n) }
-{
-    if !state::is_active(s) {
-        return 30;
+    // Skeleton and rebuild; `wrong` says that another slice that is lent is not one byte a pixel.
+    #[tactic(auto, unfolding(crate::specs::Refusals::read_table, raster::specs::Refusal::first_of))]
+    pub(crate) fn check_read(self, map: &[i16], wrong: bool) -> Result<(), Refusal>
+        ensures { answer_of result ≡ first_of (read_table self map.now wrong) }
+    {
+        if !self.is_active() {
+            return Err(Refusal::NotOpen);
+        }
+        if !self.is_map(map) | wrong {
+            return Err(Refusal::Length);
+        }
+        if !self.current {
+            return Err(Refusal::NotCurrent);
+        }
+        if self.engine != Engine::Exact.number() {
+            return Err(Refusal::NotExact);
+        }
+        if !raster::has_copper(map, self.pixels()) {
+            return Err(Refusal::NoCopper);
+        }
+        Ok(())
     }
-    if !is_map_by(s.engine, s, map, values) {
-        return 12;
-    }
-    if (7 < d) | !((1 <= n) & (n <= Session::MAX_COUNT)) {
-        return 17;
-    }
-    if !s.lowered {
-        return 32;
-    }
-    if cutter::leaves_sheet(state::own_cutter(s), d, n) {
-        return 33;
-    }
-    0
-}
 
-// The last row of place and run, where those before it do not hold.
-pub fn gate_answer(blocked: bool) -> u32
-    ensures { result ≡ cond blocked 34 0 }
-{
-    if blocked {
-        return 34;
+    #[tactic(auto, unfolding(crate::specs::Refusals::probe_table, raster::specs::Refusal::first_of))]
+    pub(crate) fn check_probe(
+        self,
+        sheet: &[u8],
+        points: &[u16],
+        scratch: &[i16],
+        out: &[u32],
+    ) -> Result<(), Refusal>
+        ensures { answer_of result ≡ first_of (probe_table self sheet.now points.now scratch.now out.now) }
+    {
+        if !self.is_active() {
+            return Err(Refusal::NotOpen);
+        }
+        let need = exact::scratch_need(self.width);
+        let n = out.len();
+        let odd = points.len() != 2 * n;
+        if (sheet.len() != self.pixels()) | ((scratch.len() < need) | odd) {
+            return Err(Refusal::Length);
+        }
+        if probe::has_point_off(points, n, self.width as usize, self.height as usize) {
+            return Err(Refusal::OffSheet);
+        }
+        if probe::has_falling_row(points, n) {
+            return Err(Refusal::FallingRows);
+        }
+        Ok(())
     }
-    0
+
+    // Only the exact engine asks for scratch.
+    #[tactic(auto, unfolding(crate::specs::Refusals::build_table, crate::specs::Refusals::build_table_by, raster::specs::Refusal::first_of))]
+    pub(crate) fn check_build(
+        self,
+        sheet: &[u8],
+        maps: LentMaps,
+        scratch: &[i16],
+        engine: u16,
+    ) -> Result<Engine, Refusal>
+        ensures answered { answer_of result
+            ≡ first_of (build_table self sheet.now (held_by maps.entry) scratch.now engine) }
+        ensures named { IfOk result (λ e. engine_number e ≡ engine) }
+    {
+        if !self.is_active() {
+            return Err(Refusal::NotOpen);
+        }
+        let need = exact::scratch_need(self.width);
+        let short = (engine == Engine::Exact.number()) & (scratch.len() < need);
+        if (sheet.len() != self.pixels()) | (!self.is_map_by(engine, maps) | short) {
+            return Err(Refusal::Length);
+        }
+        Engine::try_from(engine)
+    }
+
+    // The closest approach at the pixel.
+    #[tactic(auto, unfolding(crate::specs::Refusals::place_table, crate::specs::Refusals::place_rows, raster::specs::Refusal::first_of))]
+    pub(crate) fn check_place(
+        self,
+        maps: LentMaps,
+        x: u16,
+        y: u16,
+        q: u32,
+    ) -> Result<Closest, Refusal>
+        ensures answered { answer_of result ≡ first_of (place_table self (held_by maps.entry) x y q) }
+        ensures met { IfOk result (λ k. k ≡ closest_at (cutter_of self x y q) (held_by maps.entry) unmet) }
+    {
+        if !self.is_active() {
+            return Err(Refusal::NotOpen);
+        }
+        if !self.is_map_by(self.engine, maps) {
+            return Err(Refusal::Length);
+        }
+        if Session::MAX_Q < q {
+            return Err(Refusal::TooWide);
+        }
+        if (self.width <= x) | (self.height <= y) {
+            return Err(Refusal::OffSheet);
+        }
+        if !self.current {
+            return Err(Refusal::NotCurrent);
+        }
+        check_gate(self.cutter_at(x, y, q).look_at(maps, Closest::NONE))
+    }
+
+    // The direction of that number, and the closest approach with the pixels of the run.
+    #[tactic(auto, unfolding(crate::specs::Refusals::run_table, crate::specs::Refusals::run_rows, raster::specs::Refusal::first_of))]
+    pub(crate) fn check_run(
+        self,
+        maps: LentMaps,
+        direction: u16,
+        count: u16,
+    ) -> Result<(Direction, Closest), Refusal>
+        ensures answered { answer_of result ≡ first_of (run_table self (held_by maps.entry) direction count) }
+        ensures named { IfOk result (λ r. direction_number r.0 ≡ direction) }
+        ensures met { IfOk result (λ r.
+            r.1 ≡ closest_along (own_cutter self) (held_by maps.entry) direction count self.closest) }
+    {
+        if !self.is_active() {
+            return Err(Refusal::NotOpen);
+        }
+        if !self.is_map_by(self.engine, maps) {
+            return Err(Refusal::Length);
+        }
+        let way = Direction::try_from(direction)?;
+        if (count < 1) | (Session::MAX_COUNT < count) {
+            return Err(Refusal::Run);
+        }
+        if !self.lowered {
+            return Err(Refusal::CutterUp);
+        }
+        let own = self.own_cutter();
+        if own.leaves_sheet(way, count) {
+            return Err(Refusal::LeavesSheet);
+        }
+        let closest = check_gate(own.look_along(maps, way, count, self.closest))?;
+        Ok((way, closest))
+    }
 }

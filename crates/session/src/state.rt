@@ -1,5 +1,6 @@
-// Which sessions are sound, and how a session changes. Each function is the definition of its name in specs/State.
+// Which sessions are sound, and how a session changes: specs/State.
 ghost use Rattle.std.specs.Prelude.{◌≡◌};
+ghost use Rattle.cutter.specs.Numbers.{engine_number};
 ghost use Rattle.session.specs.State.{
   closest_sound,
   cutter_sound,
@@ -7,7 +8,6 @@ ghost use Rattle.session.specs.State.{
   sheet_sound,
   sound,
   active,
-  cutter_up,
   opened_as,
   stale,
   built_by,
@@ -18,129 +18,150 @@ ghost use Rattle.session.specs.State.{
 };
 
 use crate::Session;
-use cutter::{Closest, Cutter};
+use cutter::{Closest, Cutter, Engine};
 
 // ---- which are sound
 
-fn is_sheet_sound(s: Session) -> bool
-    ensures { result ≡ sheet_sound s }
-{
-    if s.opened {
-        return raster::is_side(s.width) & raster::is_side(s.height);
+impl Session {
+    #[tactic(auto, unfolding(crate::specs::State::sheet_sound))]
+    fn is_sheet_sound(self) -> bool
+        ensures { result ≡ sheet_sound self }
+    {
+        if self.opened {
+            return raster::is_side(self.width) & raster::is_side(self.height);
+        }
+        (self.width == 0) & ((self.height == 0) & !self.current)
     }
-    (s.width == 0) & ((s.height == 0) & !s.current)
-}
 
-fn is_map_sound(s: Session) -> bool
-    ensures { result ≡ map_sound s }
-{
-    if s.current {
-        return cutter::is_engine(s.engine);
+    #[tactic(auto, unfolding(crate::specs::State::map_sound))]
+    fn is_map_sound(self) -> bool
+        ensures { result ≡ map_sound self }
+    {
+        if self.current {
+            return cutter::is_engine(self.engine);
+        }
+        self.engine == 0
     }
-    s.engine == 0
-}
 
-fn is_cutter_sound(s: Session) -> bool
-    ensures { result ≡ cutter_sound s }
-{
-    if s.lowered {
-        return s.current & (((s.x < s.width) & (s.y < s.height)) & (s.q <= Session::MAX_Q));
+    #[tactic(auto, unfolding(crate::specs::State::cutter_sound))]
+    fn is_cutter_sound(self) -> bool
+        ensures { result ≡ cutter_sound self }
+    {
+        if self.lowered {
+            let on_sheet = (self.x < self.width) & (self.y < self.height);
+            return self.current & (on_sheet & (self.q <= Session::MAX_Q));
+        }
+        (self.x == 0) & ((self.y == 0) & (self.q == 0))
     }
-    (s.x == 0) & ((s.y == 0) & (s.q == 0))
-}
 
-fn is_closest_sound(s: Session) -> bool
-    ensures { result ≡ closest_sound s }
-{
-    if s.closest.met {
-        return s.current;
+    #[tactic(auto, unfolding(crate::specs::State::closest_sound))]
+    fn is_closest_sound(self) -> bool
+        ensures { result ≡ closest_sound self }
+    {
+        if self.closest.met {
+            return self.current;
+        }
+        self.closest.size == 0
     }
-    s.closest.size == 0
-}
 
-pub fn is_sound(s: Session) -> bool
-    ensures { result ≡ sound s }
-{
-    is_sheet_sound(s) & (is_map_sound(s) & (is_cutter_sound(s) & is_closest_sound(s)))
-}
+    #[tactic(auto, unfolding(crate::specs::State::sound))]
+    pub(crate) fn is_sound(self) -> bool
+        ensures { result ≡ sound self }
+    {
+        let cutter = self.is_cutter_sound() & self.is_closest_sound();
+        self.is_sheet_sound() & (self.is_map_sound() & cutter)
+    }
 
-pub fn is_active(s: Session) -> bool
-    ensures { result ≡ active s }
-{
-    s.opened & is_sound(s)
+    // A sheet is open.
+    pub(crate) fn is_active(self) -> bool
+        ensures { result ≡ active self }
+    {
+        self.opened & self.is_sound()
+    }
 }
 
 // ---- how one changes
 
-fn cutter_up(opened: bool, w: u16, h: u16, current: bool, engine: u16, closest: Closest) -> Session
-    ensures { result ≡ cutter_up opened w h current engine closest }
-{
-    Session {
-        opened,
-        width: w,
-        height: h,
-        current,
-        engine,
-        lowered: false,
-        x: 0,
-        y: 0,
-        q: 0,
-        closest,
+impl Session {
+    // A sheet of w × h pixels is open, the map not current, the cutter up.
+    pub(crate) fn opened_as(w: u16, h: u16) -> Session
+        ensures { result ≡ opened_as w h }
+    {
+        Session {
+            opened: true,
+            width: w,
+            height: h,
+            ..Session::FRESH
+        }
     }
-}
 
-pub fn opened_as(w: u16, h: u16) -> Session
-    ensures { result ≡ opened_as w h }
-{
-    cutter_up(true, w, h, false, 0, Closest::NONE)
-}
+    // The map is not current any more.
+    pub(crate) fn stale(self) -> Session
+        ensures { result ≡ stale self }
+    {
+        Session::opened_as(self.width, self.height)
+    }
 
-pub fn stale_of(s: Session) -> Session
-    ensures { result ≡ stale s }
-{
-    opened_as(s.width, s.height)
-}
+    // The map is current, built by an engine.
+    pub(crate) fn built_by(self, engine: Engine) -> Session
+        ensures { result ≡ built_by (engine_number engine) self }
+    {
+        Session {
+            current: true,
+            engine: engine.number(),
+            ..self.stale()
+        }
+    }
 
-pub fn built_by(s: Session, engine: u16) -> Session
-    ensures { result ≡ built_by engine s }
-{
-    cutter_up(true, s.width, s.height, true, engine, Closest::NONE)
-}
+    // The cutter is down at (x, y) with q, and has come that close.
+    pub(crate) fn down_at(self, x: u16, y: u16, q: u32, closest: Closest) -> Session
+        ensures { result ≡ down_at x y q closest self }
+    {
+        Session {
+            lowered: true,
+            x,
+            y,
+            q,
+            closest,
+            ..self
+        }
+    }
 
-pub fn down_at(mut s: Session, x: u16, y: u16, q: u32, closest: Closest) -> Session
-    ensures { result ≡ down_at x y q closest s }
-{
-    s.lowered = true;
-    s.x = x;
-    s.y = y;
-    s.q = q;
-    s.closest = closest;
-    s
-}
-
-pub fn up_of(s: Session) -> Session
-    ensures { result ≡ up_of s }
-{
-    cutter_up(s.opened, s.width, s.height, s.current, s.engine, s.closest)
+    // The cutter is up.
+    pub(crate) fn up(self) -> Session
+        ensures { result ≡ up_of self }
+    {
+        Session {
+            lowered: false,
+            x: 0,
+            y: 0,
+            q: 0,
+            ..self
+        }
+    }
 }
 
 // ---- the cutter over the session's map
 
-pub fn cutter_of(s: Session, x: u16, y: u16, q: u32) -> Cutter
-    ensures { result ≡ cutter_of s x y q }
-{
-    Cutter {
-        width: s.width,
-        height: s.height,
-        engine: s.engine,
-        x,
-        y,
-        q,
+impl Session {
+    // One of q at the pixel (x, y).
+    pub(crate) fn cutter_at(self, x: u16, y: u16, q: u32) -> Cutter
+        ensures { result ≡ cutter_of self x y q }
+    {
+        Cutter {
+            width: self.width,
+            height: self.height,
+            engine: self.engine,
+            x,
+            y,
+            q,
+        }
     }
-}
 
-pub fn own_cutter(s: Session) -> Cutter
-    ensures { result ≡ own_cutter s }
-{
-    cutter_of(s, s.x, s.y, s.q)
+    // The one that is down.
+    pub(crate) fn own_cutter(self) -> Cutter
+        ensures { result ≡ own_cutter self }
+    {
+        self.cutter_at(self.x, self.y, self.q)
+    }
 }

@@ -1,3 +1,4 @@
 -- What the proofs of several functions use, and the theorems.
 pub mod Signed
+mod Looking
 pub mod Theorems

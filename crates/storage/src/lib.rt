@@ -6,7 +6,7 @@
 ghost use Rattle.std.specs.Prelude.{◌≡◌, true, not, ◌||◌, ◌+◌, ◌*◌, ◌≤◌, length};
 ghost use Rattle.raster.specs.Loop.{any_below};
 ghost use Rattle.raster.specs.Map.{Inside};
-ghost use Rattle.raster.specs.Refusal.{first_of, on_done};
+ghost use Rattle.raster.specs.Refusal.{first_of, on_done, answer_of};
 ghost use Rattle.raster.specs.Vector.{Short, is_mark};
 ghost use Rattle.storage.specs.Stored.{
   small_component,
@@ -22,57 +22,54 @@ ghost use Rattle.storage.specs.Stored.{
   read_back_table,
 };
 
+use raster::Refusal;
+
 // The longest side of a sheet whose map can be stored.
 pub const MAX_STORED_SIDE: u16 = 128;
 
 // Stores a map of w × h pixels. Refusals: 11, a side; 12, the length of a slice; 45, a side above 128, or a pixel that is not unlabelled and has a component
 // outside ±127.
-pub fn store(w: u16, h: u16, map: &[i16], bytes: &mut [i8]) -> u32
-    ensures answered { result ≡ first_of (store_table w h map.now bytes.old) }
-    ensures bytes_left { bytes.new ≡ on_done result (stored map.now) bytes.old }
+pub fn store(w: u16, h: u16, map: &[i16], bytes: &mut [i8]) -> Result<(), Refusal>
+    ensures answered { answer_of result ≡ first_of (store_table w h map.now bytes.old) }
+    ensures bytes_left { bytes.new ≡ on_done (answer_of result) (stored map.now) bytes.old }
 {
-    let answer = length_answer(w, h, map.len(), bytes.len());
-    if answer != 0 {
-        return answer;
-    }
+    check_lengths(w, h, map.len(), bytes.len())?;
     if has_unstorable(map, raster::area(w, h)) {
-        return 45;
+        return Err(Refusal::NotStorable);
     }
     write_bytes(map, bytes);
-    0
+    Ok(())
 }
 
 // Reads a stored map of w × h pixels back. Refusals: 11, a side; 12, the length of a slice; 45, a side above 128 or a half-marked pixel.
-pub fn read_back(w: u16, h: u16, bytes: &[i8], map: &mut [i16]) -> u32
-    ensures answered { result ≡ first_of (read_back_table w h bytes.now map.old) }
-    ensures map_left { map.new ≡ on_done result (read_back bytes.now) map.old }
+pub fn read_back(w: u16, h: u16, bytes: &[i8], map: &mut [i16]) -> Result<(), Refusal>
+    ensures answered { answer_of result ≡ first_of (read_back_table w h bytes.now map.old) }
+    ensures map_left { map.new ≡ on_done (answer_of result) (read_back bytes.now) map.old }
 {
-    let answer = length_answer(w, h, bytes.len(), map.len());
-    if answer != 0 {
-        return answer;
-    }
+    check_lengths(w, h, bytes.len(), map.len())?;
     if has_half_marked(bytes, raster::area(w, h)) {
-        return 45;
+        return Err(Refusal::NotStorable);
     }
     write_pairs(bytes, map);
-    0
+    Ok(())
 }
 
 // The refusals by sides and lengths alone.
-fn length_answer(w: u16, h: u16, from: usize, to: usize) -> u32
-    ensures { result ≡ first_of (length_rows w h from to) }
+#[tactic(auto, unfolding(crate::specs::Stored::length_rows, raster::specs::Refusal::first_of))]
+fn check_lengths(w: u16, h: u16, from: usize, to: usize) -> Result<(), Refusal>
+    ensures { answer_of result ≡ first_of (length_rows w h from to) }
 {
     if !(raster::is_side(w) & raster::is_side(h)) {
-        return 11;
+        return Err(Refusal::Side);
     }
     let n = 2 * raster::area(w, h);
     if !((from == n) & (to == n)) {
-        return 12;
+        return Err(Refusal::Length);
     }
     if (MAX_STORED_SIDE < w) | (MAX_STORED_SIDE < h) {
-        return 45;
+        return Err(Refusal::NotStorable);
     }
-    0
+    Ok(())
 }
 
 // ---- store
@@ -82,11 +79,7 @@ fn has_unstorable(map: &[i16], n: usize) -> bool
     requires { 2 * n ≤ length map.now }
     ensures { result ≡ any_below n (λ p. not (storable map.now p)) }
 {
-    let mut found = false;
-    for p in 0..n {
-        found = !is_storable(map, p) | found;
-    }
-    found
+    raster::any_below(n, |p| !is_storable(map, p))
 }
 
 // Whether pixel p can be stored. Two marks have the size 2^31. All tests are of squares: from them the compiler makes a look at several pixels at a time.
@@ -122,10 +115,7 @@ fn to_byte(z: i16) -> i8
     requires { is_mark z || small_component z ≡ true }
     ensures { result ≡ to_byte z }
 {
-    if z < -128 {
-        return -128;
-    }
-    z as i8
+    z.max(-128) as i8
 }
 
 // ---- read back
@@ -136,10 +126,7 @@ fn has_half_marked(bytes: &[i8], n: usize) -> bool
     ensures { result ≡ any_below n (half_marked bytes.now) }
 {
     let blocks = n / 16;
-    let mut found = false;
-    for k in 0..blocks {
-        found = has_half_marked_from(bytes, 16 * k, 16) | found;
-    }
+    let found = raster::any_below(blocks, |k| has_half_marked_from(bytes, 16 * k, 16));
     has_half_marked_from(bytes, 16 * blocks, n - 16 * blocks) | found
 }
 
@@ -148,11 +135,7 @@ fn has_half_marked_from(bytes: &[i8], first: usize, n: usize) -> bool
     requires { 2 * (first + n) ≤ length bytes.now }
     ensures { result ≡ any_below n (λ p. half_marked bytes.now (first + p)) }
 {
-    let mut found = false;
-    for p in 0..n {
-        found = is_half_marked(bytes, first + p) | found;
-    }
-    found
+    raster::any_below(n, |p| is_half_marked(bytes, first + p))
 }
 
 // Whether one byte alone of pixel p is −128.
@@ -180,5 +163,5 @@ fn from_byte(z: i8) -> i16
     if z == -128 {
         return raster::MARK;
     }
-    z as i16
+    i16::from(z)
 }

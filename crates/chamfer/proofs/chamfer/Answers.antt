@@ -10,8 +10,8 @@ use Rattle.chamfer.proofs.chamfer.Goals as goal
 starts_blank : (w : ℕ) → w ≤ max_side → Blank w (replicate 2050 no_value)
 starts_blank w l = record { room = omega (arith, length-replicate 2050 no_value); blank = λ p m. get_or-replicate 2050 p no_value 0 (omega arith) }
 
-pub scan_down-requires-clause-weights : goal.scan_down-requires-clause-weights
-scan_down-requires-clause-weights c = let p = c.requires.weights in (p.0, starts_blank _ p.1)
+pub scan_down-requires-clause-blank : goal.scan_down-requires-clause-blank
+scan_down-requires-clause-blank c = (c.requires.w_bound, starts_blank _ c.requires.w_bound)
 
-pub scan_up-requires-clause-weights : goal.scan_up-requires-clause-weights
-scan_up-requires-clause-weights c = let p = c.requires.weights in (p.0, starts_blank _ p.1)
+pub scan_up-requires-clause-blank : goal.scan_up-requires-clause-blank
+scan_up-requires-clause-blank c = (c.requires.w_bound, starts_blank _ c.requires.w_bound)

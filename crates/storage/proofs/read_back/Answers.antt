@@ -1,46 +1,38 @@
 -- `storage::read_back` meets its contract: the rows of sides and lengths go first, then the look at the pixels decides.
-use mathlib.Core.Path.{◌≡◌, refl, sym, ◌∙◌}
-use mathlib.Core.Bool.{Bool, cond}
-use Prim.Native.Nat.{ℕ, ◌*◌}
+use mathlib.Core.Path.{refl, sym, ◌∙◌}
 use native.Mathlib.Omega.{arith}
-use mathlib.Core.List.{List}
-use lib.IntN.{ℤ}
-use lib.ListN.{length}
-use Rattle.raster.specs.Loop.{any_below}
-use Rattle.raster.specs.Refusal.{first_of}
-use Rattle.raster.specs.RefusalLaws.{earlier_decides, last_decides}
-use Rattle.storage.specs.Stored.{length_rows, read_back_table, half_marked}
+use Rattle.std.proofs.lemmas.Result.{err_from_is_err_and}
+use Rattle.storage.specs.Stored.{read_back_table, half_marked}
 use Rattle.storage.specs.StoredLaws.{lengths_granted}
+use Rattle.storage.proofs.Looking.{refused, looked}
 use Rattle.storage.proofs.read_back.Goals as goal
 
--- past the first test the pixels decide
-looked : (w h : ℕ) (from to : List ℤ) {n : ℕ} {found : Bool} → first_of (length_rows w h (length from) (length to)) ≡ 0 → n ≡ h * w
-    → found ≡ any_below n (half_marked from) → first_of (read_back_table w h from to) ≡ cond found 45 0
-unfolding read_back_table length_rows
-looked w h from to rows area is = last_decides _ 45 _ refl rows ∙ rw (is, area)
-
-pub returns-then-answer-ne0-clause-answered : goal.returns-then-answer-ne0-clause-answered
+pub returns-in_err-check_lengths-clause-answered : goal.returns-in_err-check_lengths-clause-answered
 unfolding read_back_table
-returns-then-answer-ne0-clause-answered c = earlier_decides _ 45 _ c.length_answer-answer.ensures c.if-answer-ne0.true
+returns-in_err-check_lengths-clause-answered c =
+    let a = c.args in
+    let p = err_from_is_err_and c.from_residual.result c.from_residual.ensures.1 in
+    rw (p.1, p.2) (refused a.w a.h _ _ (half_marked a.bytes.now) _ c.in_err-check_lengths.ensures)
 
 pub has_half_marked-requires : goal.has_half_marked-requires
 has_half_marked-requires c =
     let a = c.args in
-    let l = lengths_granted a.w a.h _ _ (sym c.length_answer-answer.ensures ∙ c.if-answer-ne0.false) in
+    let l = lengths_granted a.w a.h _ _ (sym c.in_ok-check_lengths.ensures) in
     omega (arith, c.area.ensures, l.0)
 
 pub returns-then-has_half_marked-clause-answered : goal.returns-then-has_half_marked-clause-answered
+unfolding read_back_table
 returns-then-has_half_marked-clause-answered c =
     let a = c.args in
-    sym (looked a.w a.h a.bytes.now a.map.now (sym c.length_answer-answer.ensures ∙ c.if-answer-ne0.false) c.area.ensures c.has_half_marked.ensures ∙ rw c.if-has_half_marked.true refl)
+    sym (looked a.w a.h _ _ _ (sym c.in_ok-check_lengths.ensures) c.area.ensures c.has_half_marked.ensures ∙ rw c.if-has_half_marked.true refl)
 
 pub write_pairs-requires : goal.write_pairs-requires
 write_pairs-requires c =
     let a = c.args in
-    let l = lengths_granted a.w a.h _ _ (sym c.length_answer-answer.ensures ∙ c.if-answer-ne0.false) in
-    l.1 ∙ sym l.0
+    let l = lengths_granted a.w a.h _ _ (sym c.in_ok-check_lengths.ensures) in l.1 ∙ sym l.0
 
 pub returns-clause-answered : goal.returns-clause-answered
+unfolding read_back_table
 returns-clause-answered c =
     let a = c.args in
-    sym (looked a.w a.h a.bytes.now a.map.now (sym c.length_answer-answer.ensures ∙ c.if-answer-ne0.false) c.area.ensures c.has_half_marked.ensures ∙ rw c.if-has_half_marked.false refl)
+    sym (looked a.w a.h _ _ _ (sym c.in_ok-check_lengths.ensures) c.area.ensures c.has_half_marked.ensures ∙ rw c.if-has_half_marked.false refl)
