@@ -1,11 +1,10 @@
 -- Laws of executing a record: parts of buffers that are lent and come back, and each kind of record.
 -- Assumes nothing.
-use Rattle.std.specs.Prelude.{◌≡◌, refl, List, ◌++◌, Bool, true, false, cond, ◌&&◌, ℕ, ◌*◌, ◌≤◌, eqb, ℤ, length, take, drop}
-use Rattle.std.proofs.Common.{sym, ap, ◌∙◌, append-nil, arith, drop_of_length-le, take-append-drop, take_all, take_at, drop_at, length-take-le, le-leb}
+use Rattle.std.specs.Prelude.{◌≡◌, refl, List, ◌++◌, Bool, true, false, cond, ◌&&◌, ℕ, ◌*◌, ◌≤◌, eqb, ℤ, length, take, drop, min}
+use Rattle.std.proofs.Common.{sym, ap, ◌∙◌, append-nil, arith, drop_of_length-le, take-append-drop, take_all, take_at, drop_at, length-take-le}
 use Rattle.std.proofs.Math.Bool.{and-true, and-false}
 use Rattle.std.proofs.Math.Decide.{dec_le}
 use Rattle.std.proofs.Math.Seq.{take-length, drop-length}
-use Rattle.std.proofs.lemmas.Bool.{lt-leb}
 use Rattle.raster.specs.Map.{unmapped}
 use Rattle.raster.specs.Refusal.{first_of, on_done}
 use Rattle.raster.specs.Sheet.{bare}
@@ -19,21 +18,20 @@ use Rattle.session.specs.Refusals.{open_table, fill_table, build_table, place_ta
 use Rattle.session.specs.Calls.{filled_by, scratch_by, place_session, run_session, lift_session}
 use Rattle.session.specs.Lists.{World, world}
 use Rattle.records.specs.declared.Record.TheVariants.{Open, Paint, Erase, Build, Place, Run, Lift, Expand, Shrink}
-use Rattle.job.specs.declared.Done.{Done}
 use Rattle.job.specs.Run.{maps_up_to, maps_behind, maps_whole, Behind, JobState, job_state}
-use Rattle.job.specs.Execute.{upto, Executed}
+use Rattle.job.specs.Execute.{Executed}
 
 -- the first n elements, or all of them
-pub upto_take : {A : Type 0} (n : ℕ) (l : List A) {r : ℕ} → r ≡ upto n (length l) → take r l ≡ take n l
-upto_take n l e = elim (dec_le n (length l)) [
-  | yes h ↦ rw (e, le-leb n (length l) h)
-  | no h ↦ rw (e, lt-leb n (length l) (omega arith), take_all n l (omega arith), take-length)
+pub min_take : {A : Type 0} (n : ℕ) (l : List A) {r : ℕ} → r ≡ min n (length l) → take r l ≡ take n l
+min_take n l {r} e = elim (dec_le n (length l)) [
+  | yes h ↦ let same : r ≡ n = omega arith in rw same
+  | no h ↦ let same : r ≡ length l = omega arith in rw (same, take_all n l (omega arith), take-length)
 ]
 
-pub upto-drop : {A : Type 0} (n : ℕ) (l : List A) {r : ℕ} → r ≡ upto n (length l) → drop r l ≡ drop n l
-upto-drop n l e = elim (dec_le n (length l)) [
-  | yes h ↦ rw (e, le-leb n (length l) h)
-  | no h ↦ let b : length l ≤ n = omega arith in rw (e, lt-leb n (length l) (omega arith), drop_of_length-le l b, drop-length)
+pub min-drop : {A : Type 0} (n : ℕ) (l : List A) {r : ℕ} → r ≡ min n (length l) → drop r l ≡ drop n l
+min-drop n l {r} e = elim (dec_le n (length l)) [
+  | yes h ↦ let same : r ≡ n = omega arith in rw same
+  | no h ↦ let b : length l ≤ n = omega arith in let same : r ≡ length l = omega arith in rw (same, drop_of_length-le l b, drop-length)
 ]
 
 -- a part of n elements is as long
@@ -61,12 +59,12 @@ module _ {A : Type 0} (n : ℕ) (l p : List A) (same : length p ≡ length (take
   ]
 
 -- a part that was cut to what the list has came back as p
-module _ {A : Type 0} (n : ℕ) (l p : List A) {r : ℕ} (e : r ≡ upto n (length l)) (same : length p ≡ length (take r l)) where
-  pub upto_lent : take n (p ++ drop r l) ≡ p
-  upto_lent = rw (upto-drop n l e) (part_lent n l p (same ∙ ap length (upto_take n l e)))
+module _ {A : Type 0} (n : ℕ) (l p : List A) {r : ℕ} (e : r ≡ min n (length l)) (same : length p ≡ length (take r l)) where
+  pub min_lent : take n (p ++ drop r l) ≡ p
+  min_lent = rw (min-drop n l e) (part_lent n l p (same ∙ ap length (min_take n l e)))
 
-  pub upto_behind : drop n (p ++ drop r l) ≡ drop n l
-  upto_behind = rw (upto-drop n l e) (part_behind n l p (same ∙ ap length (upto_take n l e)))
+  pub min_behind : drop n (p ++ drop r l) ≡ drop n l
+  min_behind = rw (min-drop n l e) (part_behind n l p (same ∙ ap length (min_take n l e)))
 
 -- ---- executing each kind is what the definition says
 
@@ -119,20 +117,20 @@ same_state : {w v : World} {b c : Behind} {t u : List ℤ} → w ≡ v → b ≡
 same_state e f g = rw (e, f, g)
 
 module _ (s : Session) (n : ℕ) (sheet : List ℕ) where
-  pub open_executed : (w h : ℕ) (r : Done) (left : List ℕ) → r.answer ≡ first_of (open_table (take (h * w) sheet) w h)
-      → r.session ≡ on_done r.answer (opened_as w h) s
-      → r.pixels ≡ on_done r.answer (h * w) n
-      → take r.pixels left ≡ on_done r.answer (bare (take (h * w) sheet)) (take n sheet)
-      → drop r.pixels left ≡ on_done r.answer (drop (h * w) sheet) (drop n sheet)
-      → (m : Maps) (scratch : List ℤ) → Executed (Open w h) (job_state s n sheet m scratch) r.answer (job_state r.session r.pixels left m scratch)
-  open_executed w h r left answer session pixels lent behind m scratch = record {
+  pub open_executed : (w h : ℕ) (a : ℕ) (t : Session) (p : ℕ) (left : List ℕ) → a ≡ first_of (open_table (take (h * w) sheet) w h)
+      → t ≡ on_done a (opened_as w h) s
+      → p ≡ on_done a (h * w) n
+      → take p left ≡ on_done a (bare (take (h * w) sheet)) (take n sheet)
+      → drop p left ≡ on_done a (drop (h * w) sheet) (drop n sheet)
+      → (m : Maps) (scratch : List ℤ) → Executed (Open w h) (job_state s n sheet m scratch) a (job_state t p left m scratch)
+  open_executed w h a t p left answer session pixels lent behind m scratch = record {
     answer = rw (take-append-drop n sheet) answer;
     left =
-        rw (take-append-drop n sheet, take-append-drop (2 * n) m.pairs, take-append-drop n m.values, ← answer, session, lent, behind, pixels, and-false (eqb r.answer 0))
+        rw (take-append-drop n sheet, take-append-drop (2 * n) m.pairs, take-append-drop n m.values, ← answer, session, lent, behind, pixels, and-false (eqb a 0))
         (same_state
-        (ap (world _ _) (chosen (λ (k : ℕ). maps_up_to k m) (eqb r.answer 0) (h * w) n) ∙ joined (eqb r.answer 0) _ _ _ _ _ _)
-        (ap (λ (b : Maps). record { sheet = cond (eqb r.answer 0) (drop (h * w) sheet) (drop n sheet); maps = b }) (chosen (λ (k : ℕ). maps_behind k m) (eqb r.answer 0) (h * w) n)
-        ∙ joined_behind (eqb r.answer 0) _ _ _ _)
+        (ap (world _ _) (chosen (λ (k : ℕ). maps_up_to k m) (eqb a 0) (h * w) n) ∙ joined (eqb a 0) _ _ _ _ _ _)
+        (ap (λ (b : Maps). record { sheet = cond (eqb a 0) (drop (h * w) sheet) (drop n sheet); maps = b }) (chosen (λ (k : ℕ). maps_behind k m) (eqb a 0) (h * w) n)
+        ∙ joined_behind (eqb a 0) _ _ _ _)
         refl);
   }
 

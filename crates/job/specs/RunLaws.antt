@@ -1,9 +1,10 @@
 -- Laws of a job that is running: how large an answer gets, and the loop over the records: its start, a turn, its end.
 -- Assumes nothing.
-use Rattle.std.specs.Prelude.{◌≡◌, refl, true, false, ℕ, ◌+◌, ◌-◌, ◌*◌, ◌<◌, ◌≤◌, leb, ltb, ℤ, drop}
+use Rattle.std.specs.Prelude.{◌≡◌, refl, true, false, ℕ, suc, ◌+◌, ◌-◌, ◌*◌, ◌<◌, ◌≤◌, leb, ltb, ℤ, drop, None}
 use Rattle.std.proofs.Math.Path.{sym, ap}
 use Rattle.std.proofs.Common.{◌∙◌, arith, length-drop, take-append-drop}
 use Rattle.std.proofs.lemmas.Bool.{false≢true}
+use Rattle.std.proofs.Math.Decide.{dec_le}
 use mathlib.Core.List.{List, [], ◌∷◌, append_assoc, append-nil}
 use Rattle.std.proofs.Math.ListN.{length, take}
 use Rattle.std.proofs.Math.Seq.{length-take-le, drop-drop}
@@ -17,7 +18,6 @@ use Rattle.session.specs.Refusals.{open_table, fill_table, build_table, build_ta
 use Rattle.session.specs.Lists as calls
 use Rattle.session.specs.Lists.{World, table_of, answer, left_by}
 use Rattle.records.specs.declared.Record.{Record}
-use Rattle.records.specs.declared.Reading.TheVariants.{Broken}
 use Rattle.records.specs.Format.{length_here, record_here, read_here, records_in, is_job, records_of}
 use Rattle.records.specs.FormatLaws.{size_fits, splits-turn, records_turn, splits-not, records_end, broken_is}
 use Rattle.records.specs.Text.{answer_line, text_from, Put}
@@ -53,7 +53,7 @@ pub job_limit : (job : List ℕ) → is_job job ≡ true → length job ≤ 6553
 unfolding is_job
 job_limit job is = leb-true (length job) 65536 (and_left (leb (length job) 65536) _ is)
 
-pub running_start : (job : List ℕ) (start : JobState) (out : List ℕ) → is_job job ≡ true → JobRunning job start out 0 0 0 start out
+pub running_start : (job : List ℕ) (start : JobState) (out : List ℕ) → is_job job ≡ true → JobRunning job start out 0 job 0 start out
 unfolding is_job records_of report_of
 running_start job start out is =
     let z : length job - 0 ≡ length job = omega arith in record {
@@ -62,55 +62,57 @@ running_start job start out is =
       text = rw z;
       back = refl;
       count = rw z (omega arith);
-      begun = (omega arith, omega arith);
+      begun = omega arith;
       short = omega arith;
     }
 
-module _ {job : List ℕ} {start : JobState} {empty : List ℕ} {i at end : ℕ} {b : JobState} {out : List ℕ} (r : JobRunning job start empty i at end b out) where
-  module _ (more : at < length job) where
-    some_size : {size : ℕ} → size ≡ length_here (drop at job) → size ≡ 0 → ⊥
-    some_size is z = false≢true (sym (splits-not job i at is more r.begun.0 z) ∙ r.splitting)
+module _ {job : List ℕ} {start : JobState} {empty : List ℕ} {i : ℕ} {rest : List ℕ} {end : ℕ} {b : JobState} {out : List ℕ} (r : JobRunning job start empty i rest end b out) where
+  module _ {size : ℕ} (is : size ≡ length_here rest) (some : 0 < size) where
+    more : 0 < length rest
+    more = omega (arith, size_fits rest, is, some)
 
-    -- the record ends within the job
-    pub running_size : {size : ℕ} → size ≡ length_here (drop at job) → (1 ≤ size) × (at + size ≤ length job)
-    running_size is = (omega (arith, some_size is), omega (arith, size_fits (drop at job), length-drop at job, is))
+    fewer : length job - i ≡ suc (length job - (i + 1))
+    fewer = omega (arith, r.begun, more)
+
+    turn : records_in (length job - i) rest ≡ record_here rest ∷ records_in (length job - (i + 1)) (drop size rest)
+    turn = records_turn (length job - i) (length job - (i + 1)) rest fewer is more
 
     -- its line has at most nine bytes
     pub running_line : {o : Record} {a : ℕ} {next : JobState} → is_job job ≡ true → Executed o b a next → length (answer_line (i + 1) a) ≤ 9
-    running_line {o} {a} is ob =
-        nine_bytes (i + 1) a (omega (arith, job_limit job is, r.begun.0)) (omega (arith, ob.answer, two_digits (call_of o b) b.world))
-
-    -- a record stands there
-    pub running_whole : Broken ≡ read_here (drop at job) → ⊥
-    running_whole e = some_size refl (broken_is (drop at job) e)
+    running_line {o} {a} is_one ob =
+        nine_bytes (i + 1) a (omega (arith, job_limit job is_one, r.begun, more)) (omega (arith, ob.answer, two_digits (call_of o b) b.world))
 
     -- the next line has its room
     pub running_room : {text : ℕ} → 9 * length (records_of job) ≤ length out → text ≤ 9 → end + text ≤ length out
-    running_room fits short =
-        let o = records_turn job i at refl more r.begun.0 in
-        omega (arith, r.count, ap length o, r.short, fits, short)
+    running_room fits short = omega (arith, r.count, ap length turn, r.short, fits, short)
 
-    pub running_turn : {size a e : ℕ} {next : JobState} {written : List ℕ} → size ≡ length_here (drop at job)
-        → Executed (record_here (drop at job)) b a next → Put out end (answer_line (i + 1) a) e written → length (answer_line (i + 1) a) ≤ 9
-        → JobRunning job start empty (i + 1) (at + size) e next written
+    pub running_turn : {a e : ℕ} {next : JobState} {written : List ℕ}
+        → Executed (record_here rest) b a next → Put out end (answer_line (i + 1) a) e written → length (answer_line (i + 1) a) ≤ 9
+        → JobRunning job start empty (i + 1) (drop size rest) e next written
     unfolding calls_of state_after answers_of text_from
-    running_turn {size} {a} {e} {next} {written} is ob p short =
-        let some = some_size is in
-        let o = records_turn job i at is more r.begun.0 in record {
-          splitting = sym (splits-turn job i at is more r.begun.0 some) ∙ r.splitting;
-          state = rw ob.left (rw o at r.state);
-          text = rw (p.front, append_assoc, ob.left, ob.answer) (rw o at r.text);
+    running_turn {a} {e} {next} {written} ob p short =
+        record {
+          splitting = sym (splits-turn (length job - i) (length job - (i + 1)) rest fewer is more (λ z. omega (arith, some, z))) ∙ r.splitting;
+          state = rw ob.left (rw turn at r.state);
+          text = rw (p.front, append_assoc, ob.left, ob.answer) (rw turn at r.text);
           back =
               let n : e ≡ end + length (answer_line (i + 1) a) = p.ends in
               p.back ∙ rw n (sym (drop-drop (length (answer_line (i + 1) a)) end out) ∙ ap (drop (length (answer_line (i + 1) a))) r.back ∙ drop-drop (length (answer_line (i + 1) a)) end empty);
-          count = omega (arith, r.count, ap length o);
-          begun = (omega (arith, r.begun.0, some), (running_size is).1);
+          count = omega (arith, r.count, ap length turn);
+          begun = omega (arith, r.begun, some, is, size_fits rest, length-drop size rest);
           short = omega (arith, p.ends, r.short);
         }
 
-  module _ (done : length job ≤ at) where
-    none_left : records_in (length job - i) (drop at job) ≡ []
-    none_left = records_end (length job - i) (drop at job) (omega (arith, length-drop at job))
+  -- no record stands there only at the end
+  module _ (none : length_here rest ≡ 0) where
+    at_end : length rest ≡ 0
+    at_end = elim (dec_le 1 (length rest)) [
+      | yes more ↦ absurd (false≢true (sym (splits-not (length job - i) (length job - (i + 1)) rest (omega (arith, r.begun)) refl more none) ∙ r.splitting))
+      | no end ↦ omega arith
+    ]
+
+    none_left : records_in (length job - i) rest ≡ []
+    none_left = records_end (length job - i) rest at_end
 
     pub running_end : 9 * length (records_of job) ≤ length out → Put empty 0 (report_of (records_of job) start) end out
     unfolding calls_of answers_of text_from
@@ -125,6 +127,19 @@ module _ {job : List ℕ} {start : JobState} {empty : List ℕ} {i at end : ℕ}
     pub running_left : b ≡ state_after (records_of job) start
     unfolding state_after
     running_left = rw none_left at r.state
+
+  -- where bytes are left, a record stands there, and ends within them
+  pub running_size : {size : ℕ} → 0 < length rest → size ≡ length_here rest → (1 ≤ size) × (size ≤ length rest)
+  running_size {size} more is = (
+    elim (dec_le 1 size) [
+      | yes some ↦ some
+      | no none ↦ let end : length rest ≡ 0 = at_end (omega (arith, is, none)) in absurd (omega (arith, more, end))
+    ],
+    omega (arith, size_fits rest, is),
+  )
+
+  pub running_whole : 0 < length rest → None ≡ read_here rest → ⊥
+  running_whole more e = let end : length rest ≡ 0 = at_end (broken_is rest e) in absurd (omega (arith, more, end))
 
 -- the buffers that a session works on
 pub buffers : {t : JobState} (s : Session) (n : ℕ) (sheet : List ℕ) (m : Maps) (scratch : List ℤ) → job_state s n sheet m scratch ≡ t → Buffers t sheet m scratch

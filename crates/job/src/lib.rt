@@ -6,15 +6,16 @@
 
 #![tactic(auto)]
 
-ghost use Rattle.std.specs.Prelude.{◌≡◌, true, List, ℕ, ◌+◌, ◌*◌, ◌≤◌, ◌<◌, ℤ, length};
+ghost use Rattle.std.specs.Prelude.{◌≡◌, true, List, ◌*◌, ◌≤◌, ℤ, length, min};
 ghost use Rattle.cutter.specs.Kinds.{Maps, maps};
-ghost use Rattle.records.specs.declared.Record.TheVariants.{Open, Paint, Erase, Build, Place, Run, Expand, Shrink};
+ghost use Rattle.records.specs.declared.Record.TheVariants.{Open};
 ghost use Rattle.records.specs.Format.{is_job, records_of};
 ghost use Rattle.records.specs.Text.{written, Put};
 ghost use Rattle.job.specs.Run.{job_state, start_state, sheet_buffer, map_buffers, report_of, state_after, ran_answer, printed, state_left};
-ghost use Rattle.job.specs.Execute.{upto, Executed, Buffers};
+ghost use Rattle.job.specs.Execute.{Executed, Buffers};
 
-use records::{Reading, Record};
+use raster::Refusal;
+use records::Record;
 use session::{Reply, Session};
 
 // How many bytes of text were written, and 0; 12 if the text may not fit; 19 if the job does not split.
@@ -24,224 +25,89 @@ pub struct Ran {
     pub answer: u32,
 }
 
-// What a record leaves: its answer, the session, and how many pixels the open sheet has.
-#[derive(Clone, Copy)]
-struct Done {
-    answer: u32,
-    pixels: usize,
-    session: Session,
-}
-
-// ---- what is lent
-
-// The first n of a slice, or all of a shorter one.
-fn first(n: usize, len: usize) -> usize
-    ensures { (result ≡ upto n len) × (result ≤ len) }
-{
-    if n <= len {
-        return n;
-    }
-    len
-}
-
 // The first 2 × n of a slice, or all of a shorter one.
 fn first_pairs(n: usize, len: usize) -> usize
-    ensures { (result ≡ upto (2 * n) len) × (result ≤ len) }
+    ensures { (result ≡ min (2 * n) len) × (result ≤ len) }
 {
-    if n <= len / 2 {
-        return n + n;
+    n.saturating_mul(2).min(len)
+}
+
+// A session at work, and how many pixels its open sheet has.
+#[derive(Clone, Copy)]
+struct Running {
+    session: Session,
+    pixels: usize,
+}
+
+impl Running {
+    // Takes back the session that a call replied with; returns its answer.
+    fn take_back(&mut self, reply: Reply) -> u32
+        ensures answer { result ≡ reply.answer }
+        ensures session { self.new.session ≡ reply.session }
+        ensures pixels { self.new.pixels ≡ self.old.pixels }
+    {
+        self.session = reply.session;
+        reply.answer
     }
-    len
-}
 
-// A session's reply, and how many pixels the open sheet has then.
-fn with_pixels(reply: Reply, n: usize) -> Done
-    ensures { (result.answer ≡ reply.answer) × ((result.pixels ≡ n) × (result.session ≡ reply.session)) }
-{
-    let session = reply.session;
-    Done {
-        answer: reply.answer,
-        pixels: n,
-        session,
+    // Opening is lent as much as its sheet needs, or all of a shorter buffer; if it is refused, the former parts stay.
+    fn open(&mut self, sheet: &mut [u8], w: u16, h: u16) -> u32
+        requires { self.old.pixels ≤ length sheet.old }
+        ensures executed { (m : Maps) (scratch : List ℤ)
+            → Executed (Open w h) (job_state self.old.session self.old.pixels sheet.old m scratch) result
+            (job_state self.new.session self.new.pixels sheet.new m scratch) }
+        ensures within { self.new.pixels ≤ length sheet.new }
+    {
+        let pixels = raster::area(w, h).min(sheet.len());
+        let reply = self.session.open_sheet(&mut sheet[..pixels], w, h);
+        if reply.answer == 0 {
+            self.pixels = pixels;
+        }
+        self.take_back(reply)
     }
-}
 
-// ---- executing a record of each kind. What is not lent to a function stays, whatever it is.
-
-// Open is lent as much as its sheet needs; if it is refused, the former parts stay.
-fn execute_open(s: Session, n: usize, sheet: &mut [u8], w: u16, h: u16) -> Done
-    requires { n ≤ length sheet.old }
-    ensures executed { (m : Maps) (scratch : List ℤ)
-        → Executed (Open w h) (job_state s n sheet.old m scratch) result.answer
-        (job_state result.session result.pixels sheet.new m scratch) }
-    ensures within { result.pixels ≤ length sheet.new }
-{
-    let pixels = first(raster::area(w, h), sheet.len());
-    let reply = s.open_sheet(&mut sheet[..pixels], w, h);
-    if reply.answer == 0 {
-        return with_pixels(reply, pixels);
-    }
-    with_pixels(reply, n)
-}
-
-fn execute_paint(
-    s: Session,
-    n: usize,
-    sheet: &mut [u8],
-    x: u16,
-    y: u16,
-    cols: u16,
-    rows: u16,
-) -> Reply
-    requires { n ≤ length sheet.old }
-    ensures { (m : Maps) (scratch : List ℤ)
-        → Executed (Paint x y cols rows) (job_state s n sheet.old m scratch) result.answer
-        (job_state result.session n sheet.new m scratch) }
-{
-    s.paint(&mut sheet[..n], x, y, cols, rows)
-}
-
-fn execute_erase(
-    s: Session,
-    n: usize,
-    sheet: &mut [u8],
-    x: u16,
-    y: u16,
-    cols: u16,
-    rows: u16,
-) -> Reply
-    requires { n ≤ length sheet.old }
-    ensures { (m : Maps) (scratch : List ℤ)
-        → Executed (Erase x y cols rows) (job_state s n sheet.old m scratch) result.answer
-        (job_state result.session n sheet.new m scratch) }
-{
-    s.erase(&mut sheet[..n], x, y, cols, rows)
-}
-
-// A map buffer that is too short is lent whole, for the session to refuse; so it is below.
-fn execute_build(
-    s: Session,
-    n: usize,
-    sheet: &[u8],
-    map: &mut [i16],
-    values: &mut [u16],
-    scratch: &mut [i16],
-    engine: u16,
-) -> Reply
-    requires { n ≤ length sheet.now }
-    ensures { Executed (Build engine)
-        (job_state s n sheet.now (maps map.old values.old) scratch.old) result.answer
-        (job_state result.session n sheet.now (maps map.new values.new) scratch.new) }
-{
-    let numbers = first_pairs(n, map.len());
-    let entries = first(n, values.len());
-    s.build(
-        &sheet[..n],
-        &mut map[..numbers],
-        &mut values[..entries],
-        scratch,
-        engine,
-    )
-}
-
-fn execute_place(s: Session, n: usize, map: &[i16], values: &[u16], x: u16, y: u16, q: u32) -> Reply
-    ensures { (sheet : List ℕ) (scratch : List ℤ) → let m = maps map.now values.now in
-        Executed (Place x y q) (job_state s n sheet m scratch) result.answer (job_state result.session n sheet m scratch) }
-{
-    let numbers = first_pairs(n, map.len());
-    let entries = first(n, values.len());
-    s.place(&map[..numbers], &values[..entries], x, y, q)
-}
-
-fn execute_run(
-    s: Session,
-    n: usize,
-    map: &[i16],
-    values: &[u16],
-    direction: u16,
-    count: u16,
-) -> Reply
-    ensures { (sheet : List ℕ) (scratch : List ℤ) → let m = maps map.now values.now in
-        Executed (Run direction count) (job_state s n sheet m scratch) result.answer (job_state result.session n sheet m scratch) }
-{
-    let numbers = first_pairs(n, map.len());
-    let entries = first(n, values.len());
-    s.run(&map[..numbers], &values[..entries], direction, count)
-}
-
-fn execute_expand(
-    s: Session,
-    n: usize,
-    sheet: &mut [u8],
-    map: &mut [i16],
-    scratch: &mut [i16],
-    q: u32,
-) -> Reply
-    requires { n ≤ length sheet.old }
-    ensures { (values : List ℕ)
-        → Executed (Expand q) (job_state s n sheet.old (maps map.old values) scratch.old) result.answer
-        (job_state result.session n sheet.new (maps map.new values) scratch.new) }
-{
-    let numbers = first_pairs(n, map.len());
-    s.expand(&mut sheet[..n], &mut map[..numbers], scratch, q)
-}
-
-fn execute_shrink(
-    s: Session,
-    n: usize,
-    sheet: &mut [u8],
-    map: &mut [i16],
-    scratch: &mut [i16],
-    q: u32,
-) -> Reply
-    requires { n ≤ length sheet.old }
-    ensures { (values : List ℕ)
-        → Executed (Shrink q) (job_state s n sheet.old (maps map.old values) scratch.old) result.answer
-        (job_state result.session n sheet.new (maps map.new values) scratch.new) }
-{
-    let numbers = first_pairs(n, map.len());
-    s.shrink(&mut sheet[..n], &mut map[..numbers], scratch, q)
-}
-
-// ---- executing any record
-
-fn execute(
-    s: Session,
-    n: usize,
-    given: Record,
-    sheet: &mut [u8],
-    map: &mut [i16],
-    values: &mut [u16],
-    scratch: &mut [i16],
-) -> Done
-    requires { n ≤ length sheet.old }
-    ensures executed { Executed given
-        (job_state s n sheet.old (maps map.old values.old) scratch.old) result.answer
-        (job_state result.session result.pixels sheet.new (maps map.new values.new) scratch.new) }
-    ensures within { result.pixels ≤ length sheet.new }
-{
-    match given {
-        Record::Open(w, h) => execute_open(s, n, sheet, w, h),
-        Record::Paint(x, y, cols, rows) => with_pixels(
-            execute_paint(s, n, sheet, x, y, cols, rows),
-            n,
-        ),
-        Record::Erase(x, y, cols, rows) => with_pixels(
-            execute_erase(s, n, sheet, x, y, cols, rows),
-            n,
-        ),
-        Record::Build(engine) => with_pixels(
-            execute_build(s, n, sheet, map, values, scratch, engine),
-            n,
-        ),
-        Record::Place(x, y, q) => with_pixels(execute_place(s, n, map, values, x, y, q), n),
-        Record::Run(direction, count) => with_pixels(
-            execute_run(s, n, map, values, direction, count),
-            n,
-        ),
-        Record::Lift => with_pixels(s.lift(), n),
-        Record::Expand(q) => with_pixels(execute_expand(s, n, sheet, map, scratch, q), n),
-        Record::Shrink(q) => with_pixels(execute_shrink(s, n, sheet, map, scratch, q), n),
+    // Executes any record. A map buffer that is too short is lent whole, for the session to refuse.
+    fn execute(
+        &mut self,
+        given: Record,
+        sheet: &mut [u8],
+        map: &mut [i16],
+        values: &mut [u16],
+        scratch: &mut [i16],
+    ) -> u32
+        requires { self.old.pixels ≤ length sheet.old }
+        ensures executed { Executed given
+            (job_state self.old.session self.old.pixels sheet.old (maps map.old values.old) scratch.old) result
+            (job_state self.new.session self.new.pixels sheet.new (maps map.new values.new) scratch.new) }
+        ensures within { self.new.pixels ≤ length sheet.new }
+    {
+        let s = self.session;
+        let n = self.pixels;
+        let numbers = first_pairs(n, map.len());
+        let entries = n.min(values.len());
+        let reply = match given {
+            Record::Open(w, h) => return self.open(sheet, w, h),
+            Record::Paint(x, y, cols, rows) => s.paint(&mut sheet[..n], x, y, cols, rows),
+            Record::Erase(x, y, cols, rows) => s.erase(&mut sheet[..n], x, y, cols, rows),
+            Record::Build(engine) => s.build(
+                &sheet[..n],
+                &mut map[..numbers],
+                &mut values[..entries],
+                scratch,
+                engine,
+            ),
+            Record::Place(x, y, q) => s.place(&map[..numbers], &values[..entries], x, y, q),
+            Record::Run(direction, count) => s.run(
+                &map[..numbers],
+                &values[..entries],
+                direction,
+                count,
+            ),
+            Record::Lift => s.lift(),
+            Record::Expand(q) => s.expand(&mut sheet[..n], &mut map[..numbers], scratch, q),
+            Record::Shrink(q) => s.shrink(&mut sheet[..n], &mut map[..numbers], scratch, q),
+        };
+        self.take_back(reply)
     }
 }
 
@@ -263,23 +129,18 @@ fn run_all(
         (start_state sheet.old (maps map.old values.old) scratch.old))
         sheet.new (maps map.new values.new) scratch.new }
 {
-    let mut s = Session::fresh();
-    let mut n = 0;
-    let mut at = 0;
+    let mut running = Running {
+        session: Session::fresh(),
+        pixels: 0,
+    };
+    let mut rest = job;
     let mut i = 0;
     let mut end = 0;
-    while at < job.len() {
-        let reading = records::read(job, at);
-        let Reading::Whole(record, length) = reading else {
-            return end;
-        };
-        let done = execute(s, n, record, sheet, map, values, scratch);
+    while let Some((record, length)) = records::read(rest) {
+        let answer = running.execute(record, sheet, map, values, scratch);
         i += 1;
-        end = records::put_line(out, end, i, done.answer);
-        at += length;
-        n = done.pixels;
-        let session = done.session;
-        s = session;
+        end = records::put_line(out, end, i, answer);
+        rest = &rest[length..];
     }
     end
 }
@@ -309,23 +170,26 @@ pub fn run(
     ensures scratch_left { scratch.new ≡ (state_left job.now out.old
         (start_state sheet.old (maps map.old values.old) scratch.old)).scratch }
 {
-    let counted = records::split(job);
-    if counted.answer != 0 {
-        if out.len() < 5 {
+    let records = match records::split(job) {
+        Ok(records) => records,
+        Err(refusal) => {
+            if out.len() < 5 {
+                return Ran {
+                    written: 0,
+                    answer: Refusal::Length.number(),
+                };
+            }
+            let answer = refusal.number();
             return Ran {
-                written: 0,
-                answer: 12,
+                written: records::put_line(out, 0, 0, answer),
+                answer,
             };
         }
-        return Ran {
-            written: records::put_line(out, 0, 0, 19),
-            answer: 19,
-        };
-    }
-    if out.len() < 9 * (counted.records as usize) {
+    };
+    if out.len() < 9 * (records as usize) {
         return Ran {
             written: 0,
-            answer: 12,
+            answer: Refusal::Length.number(),
         };
     }
     Ran {

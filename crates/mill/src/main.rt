@@ -11,10 +11,7 @@ use std::io::Read;
 fn read_some(rt: &HostRuntime, buf: &mut [u8]) -> usize
     ensures { result ≤ length buf.new }
 {
-    match rt.stdin().read(buf) {
-        Ok(n) => n,
-        Err(_) => 0,
-    }
+    rt.stdin().read(buf).unwrap_or(0)
 }
 
 // Reads until the buffer is full or nothing more comes; returns the number of bytes.

@@ -1,11 +1,10 @@
 -- The bytes of a job file: document 01, "Job file". What a record means, what its bytes are, and how bytes split into records.
 -- Assumes nothing.
-use Rattle.std.specs.Prelude.{Bool, true, false, cond, ◌&&◌, ◌||◌, List, [], ◌∷◌, ◌++◌, ◌≡◌, ℕ, zero, suc, ◌+◌, ◌*◌, ◌/◌, ◌%◌, ◌≤◌, eqb, leb, length, get_or, drop}
-use Rattle.records.specs.declared.Counted.{Counted}
+use Rattle.std.specs.Prelude.{Bool, true, false, cond, ◌&&◌, ◌||◌, List, [], ◌∷◌, ◌++◌, ◌≡◌, ℕ, zero, suc, ◌+◌, ◌*◌, ◌/◌, ◌%◌, ◌≤◌, eqb, leb, length, get_or, drop, Option, None, Some, Result, Ok, Err}
+use Rattle.raster.specs.declared.refusal.Refusal.{Refusal}
+use Rattle.raster.specs.declared.refusal.Refusal.TheVariants.{NotAJob}
 use Rattle.records.specs.declared.Record.{Record}
 use Rattle.records.specs.declared.Record.TheVariants.{Open, Paint, Erase, Build, Place, Run, Lift, Expand, Shrink}
-use Rattle.records.specs.declared.Reading.{Reading}
-use Rattle.records.specs.declared.Reading.TheVariants.{Whole, Broken}
 
 -- ---- reading, little-endian
 
@@ -29,6 +28,10 @@ length_here bytes =
     (cond (eqb (word bytes 0) (length_of (word bytes 2)) && leb (word bytes 0) (length bytes)) (word bytes 0) 0)
     0
 
+-- a length, and none where it is 0
+abbrev pub some_length : ℕ → Option ℕ
+some_length n = cond (eqb n 0) None (Some n)
+
 -- a whole record of a known kind stands at the front of the bytes
 pub record Here (b : List ℕ) : Type 0 where
   pub known : (1 ≤ word b 2) × (word b 2 ≤ 9)
@@ -48,9 +51,9 @@ record_here b =
     (cond (eqb kind 6) (Run (word b 4) (word b 6))
     (cond (eqb kind 7) Lift (cond (eqb kind 8) (Expand (long b 4)) (Shrink (long b 4)))))))))
 
--- what stands at the front of the bytes
-unfoldable pub read_here : List ℕ → Reading
-read_here b = cond (eqb (length_here b) 0) Broken (Whole (record_here b) (length_here b))
+-- what stands at the front of the bytes: a whole record with its length, or none
+unfoldable pub read_here : List ℕ → Option (Record × ℕ)
+read_here b = cond (eqb (length_here b) 0) None (Some (record_here b, length_here b))
 
 -- ---- splitting
 
@@ -73,9 +76,9 @@ is_job bytes = leb (length bytes) 65536 && splits (length bytes) bytes
 unfoldable pub records_of : List ℕ → List Record
 records_of bytes = records_in (length bytes) bytes
 
--- splitting answers the number of records and 0, or 0 records and 19
-unfoldable pub split_of : List ℕ → Counted
-split_of bytes = cond (is_job bytes) (record { records = length (records_of bytes); answer = 0 }) (record { records = 0; answer = 19 })
+-- splitting answers the number of records, or that the bytes are no job
+unfoldable pub record_count : List ℕ → Result ℕ Refusal
+record_count bytes = cond (is_job bytes) (Ok (length (records_of bytes))) (Err NotAJob)
 
 -- ---- writing: reading undoes it (`encoded`), and what splits was written so (`decoded`)
 

@@ -1,21 +1,22 @@
 -- Laws of the job file's bytes.
 -- Assumes nothing.
-use Rattle.std.specs.Prelude.{◌≡◌, refl, Bool, true, false, cond, ◌&&◌, List, [], ◌∷◌, ◌++◌, ℕ, zero, suc, ◌+◌, ◌-◌, ◌*◌, ◌/◌, ◌%◌, ◌<◌, ◌≤◌, eqb, leb, length, get_or, drop}
-use Rattle.std.proofs.Common.{sym, ap, ap₂, ◌∙◌, true≢false, arith, div-add-mod', length-append, length-drop, drop-drop, get_or-drop}
+use Rattle.std.specs.Prelude.{◌≡◌, refl, Bool, true, false, cond, ◌&&◌, List, [], ◌∷◌, ◌++◌, ℕ, zero, suc, ◌+◌, ◌-◌, ◌*◌, ◌/◌, ◌%◌, ◌<◌, ◌≤◌, eqb, leb, length, get_or, take, drop, Option, None, Some, Result, Ok, Err}
+use Rattle.std.proofs.Common.{sym, ap, ap₂, ◌∙◌, arith, div-add-mod', length-append, length-drop, get_or-drop}
 use Rattle.std.proofs.Math.Bool.{and-false}
 use Rattle.std.proofs.Math.Decide.{dec_le}
-use Rattle.std.proofs.Math.Seq.{drop-append_seam}
+use Rattle.std.proofs.Math.Seq.{drop-append_seam, take-length}
 use borrow.Author.Tests.{eq-eqb, ne_eqb, eqb-true, leb-true, le-leb, lt-leb}
+use Rattle.std.proofs.lemmas.Bool.{eqb-false}
 use Rattle.raster.specs.Tests.{and_left, and_right, cond_ind}
-use Rattle.records.specs.declared.Counted.{Counted}
+use Rattle.raster.specs.declared.refusal.Refusal.{Refusal}
+use Rattle.raster.specs.declared.refusal.Refusal.TheVariants.{NotAJob}
 use Rattle.records.specs.declared.Record.{Record}
 use Rattle.records.specs.declared.Record.TheVariants.{Open, Paint, Erase, Build, Place, Run, Lift, Expand, Shrink}
-use Rattle.records.specs.declared.Reading.{Reading}
-use Rattle.records.specs.declared.Reading.TheVariants.{Whole, Broken}
 use Rattle.records.specs.Format.{
   word,
   length_of,
   length_here,
+  some_length,
   Here,
   record_here,
   read_here,
@@ -23,10 +24,23 @@ use Rattle.records.specs.Format.{
   records_in,
   is_job,
   records_of,
-  split_of,
+  record_count,
   encode,
   encode_all,
 }
+
+-- a length that is none is 0, and another is not
+pub none_is : (n : ℕ) → None ≡ some_length n → n ≡ 0
+none_is n =
+    cond_ind (λ (found : Option ℕ). None ≡ found → n ≡ 0) (eqb n 0)
+    (λ z _. eqb-true n 0 z)
+    (λ _ e. cc)
+
+pub some_is : (n : ℕ) {length : ℕ} → Some length ≡ some_length n → (length ≡ n) × (0 < length)
+some_is n {length} =
+    cond_ind (λ (found : Option ℕ). Some length ≡ found → (length ≡ n) × (0 < length)) (eqb n 0)
+    (λ _ e. cc)
+    (λ some e. let same : length ≡ n = cc in (same, omega (arith, eqb-false n 0 some)))
 
 -- two bytes beside each other, read from a part of the bytes
 pub word-drop : (bytes : List ℕ) (at i : ℕ) {low high : ℕ} → low ≡ get_or bytes (at + i) 0 → high ≡ get_or bytes ((at + i) + 1) 0
@@ -46,28 +60,28 @@ size_fits bytes =
     (λ _. omega arith))
     (λ _. omega arith)
 
--- at a record, where bytes are left
-module _ (job : List ℕ) (i at : ℕ) {size : ℕ} (is : size ≡ length_here (drop at job)) (more : at < length job) (few : i ≤ at) where
-  one_less : length job - i ≡ suc (length job - (i + 1))
-  one_less = omega arith
+-- the bytes behind the first n of them, as a slice has them
+pub rest_is : (bytes : List ℕ) (n : ℕ) → take (length bytes - n) (drop n bytes) ≡ drop n bytes
+rest_is bytes n = rw (← length-drop n bytes) (take-length (drop n bytes))
 
-  some_left : eqb (length (drop at job)) 0 ≡ false
-  some_left = ne_eqb (length (drop at job)) 0 (omega (arith, length-drop at job))
+-- at a record, where bytes are left; it is one of at most so many
+module _ (most fewer : ℕ) (rest : List ℕ) {size : ℕ} (one : most ≡ suc fewer) (is : size ≡ length_here rest) (more : 0 < length rest) where
+  some_left : eqb (length rest) 0 ≡ false
+  some_left = ne_eqb (length rest) 0 (omega arith)
 
   -- one record further on
-  pub splits-turn : (size ≡ 0 → ⊥) → splits (length job - i) (drop at job) ≡ splits (length job - (i + 1)) (drop (at + size) job)
+  pub splits-turn : (size ≡ 0 → ⊥) → splits most rest ≡ splits fewer (drop size rest)
   unfolding splits
-  splits-turn some = rw (one_less, some_left, ← is, ne_eqb size 0 some, drop-drop)
+  splits-turn some = rw (one, some_left, ← is, ne_eqb size 0 some)
 
-  pub records_turn :
-      records_in (length job - i) (drop at job) ≡ record_here (drop at job) ∷ records_in (length job - (i + 1)) (drop (at + size) job)
+  pub records_turn : records_in most rest ≡ record_here rest ∷ records_in fewer (drop size rest)
   unfolding records_in
-  records_turn = rw (one_less, some_left, ← is, drop-drop)
+  records_turn = rw (one, some_left, ← is)
 
   -- it is none
-  pub splits-not : size ≡ 0 → splits (length job - i) (drop at job) ≡ false
+  pub splits-not : size ≡ 0 → splits most rest ≡ false
   unfolding splits
-  splits-not none = rw (one_less, some_left, ← is, none)
+  splits-not none = rw (one, some_left, ← is, none)
 
 -- at the end
 pub splits_end : (n : ℕ) (bytes : List ℕ) → length bytes ≡ 0 → splits n bytes ≡ true
@@ -81,19 +95,19 @@ records_end zero bytes e = refl
 records_end (suc n) bytes e = rw e
 
 -- what splitting answered
-pub split_done : (job : List ℕ) {c : Counted} → c ≡ split_of job → c.answer ≡ 0 → (is_job job ≡ true) × (c.records ≡ length (records_of job))
-unfolding split_of
-split_done job {c} e done =
-    cond_ind (λ (d : Counted). c ≡ d → (is_job job ≡ true) × (c.records ≡ length (records_of job))) (is_job job)
-    (λ is q. (is, ap (λ (d : Counted). d.records) q))
-    (λ _ q. absurd (omega (arith, done, ap (λ (d : Counted). d.answer) q))) e
+pub split_done : (job : List ℕ) {n : ℕ} → Ok n ≡ record_count job → (is_job job ≡ true) × (n ≡ length (records_of job))
+unfolding record_count
+split_done job {n} =
+    cond_ind (λ (d : Result ℕ Refusal). Ok n ≡ d → (is_job job ≡ true) × (n ≡ length (records_of job))) (is_job job)
+    (λ is q. (is, cc))
+    (λ _ q. cc)
 
-pub split_refused : (job : List ℕ) {c : Counted} → c ≡ split_of job → (c.answer ≡ 0 → ⊥) → is_job job ≡ false
-unfolding split_of
-split_refused job {c} e some =
-    cond_ind (λ (d : Counted). c ≡ d → is_job job ≡ false) (is_job job)
-    (λ _ q. absurd (some (ap (λ (d : Counted). d.answer) q)))
-    (λ is _. is) e
+pub split_refused : (job : List ℕ) {refusal : Refusal} → Err refusal ≡ record_count job → (is_job job ≡ false) × (refusal ≡ NotAJob)
+unfolding record_count
+split_refused job {refusal} =
+    cond_ind (λ (d : Result ℕ Refusal). Err refusal ≡ d → (is_job job ≡ false) × (refusal ≡ NotAJob)) (is_job job)
+    (λ _ q. cc)
+    (λ is q. (is, cc))
 
 -- ---- reading what was written
 
@@ -212,37 +226,28 @@ beyond m {k} l n = elim (dec_le (m + 1) k) [
 
 -- ---- what reading found
 
-pub read_broken : (b : List ℕ) {length : ℕ} → length ≡ length_here b → length ≡ 0 → Broken ≡ read_here b
+pub read_broken : (b : List ℕ) {length : ℕ} → length ≡ length_here b → length ≡ 0 → None ≡ read_here b
 unfolding read_here
 read_broken b is none = rw (← is, none)
 
-pub read_whole : (b : List ℕ) {length : ℕ} {r : Record} → length ≡ length_here b → (length ≡ 0 → ⊥) → r ≡ record_here b → Whole r length ≡ read_here b
+pub read_whole : (b : List ℕ) {length : ℕ} {r : Record} → length ≡ length_here b → (length ≡ 0 → ⊥) → r ≡ record_here b → Some (r, length) ≡ read_here b
 unfolding read_here
 read_whole b {length} is some same = rw (← is, ne_eqb length 0 some, same)
 
-is_whole : Reading → Bool
-is_whole (Whole r n) = true
-is_whole Broken = false
-
-its_record : Reading → Record
-its_record (Whole r n) = r
-its_record Broken = Lift
-
-its_length : Reading → ℕ
-its_length (Whole r n) = n
-its_length Broken = 0
-
 -- a whole record, and none
-pub whole_is : (b : List ℕ) {r : Record} {n : ℕ} → Whole r n ≡ read_here b → (r ≡ record_here b) × (n ≡ length_here b)
-unfolding read_here is_whole its_record its_length
+pub whole_is : (b : List ℕ) {r : Record} {n : ℕ} → Some (r, n) ≡ read_here b → (r ≡ record_here b) × (n ≡ length_here b) × (0 < n)
+unfolding read_here
 whole_is b {r} {n} =
-    cond_ind (λ (found : Reading). Whole r n ≡ found → (r ≡ record_here b) × (n ≡ length_here b)) (eqb (length_here b) 0)
-    (λ _ e. absurd (true≢false (ap is_whole e)))
-    (λ _ e. (ap its_record e, ap its_length e))
+    cond_ind (λ (found : Option (Record × ℕ)). Some (r, n) ≡ found → (r ≡ record_here b) × (n ≡ length_here b) × (0 < n)) (eqb (length_here b) 0)
+    (λ _ e. cc)
+    (λ some e.
+    let same : ◌≡◌ {A = Record × ℕ} (r, n) (record_here b, length_here b) = cc in
+    let size : n ≡ length_here b = ap (λ (p : Record × ℕ). p.1) same in
+    (ap (λ (p : Record × ℕ). p.0) same, size, omega (arith, eqb-false (length_here b) 0 some)))
 
-pub broken_is : (b : List ℕ) → Broken ≡ read_here b → length_here b ≡ 0
-unfolding read_here is_whole
+pub broken_is : (b : List ℕ) → None ≡ read_here b → length_here b ≡ 0
+unfolding read_here
 broken_is b =
-    cond_ind (λ (found : Reading). Broken ≡ found → length_here b ≡ 0) (eqb (length_here b) 0)
+    cond_ind (λ (found : Option (Record × ℕ)). None ≡ found → length_here b ≡ 0) (eqb (length_here b) 0)
     (λ z _. eqb-true (length_here b) 0 z)
-    (λ _ e. absurd (true≢false (sym (ap is_whole e))))
+    (λ _ e. cc)

@@ -3,17 +3,11 @@
 
 #![tactic(auto)]
 
-ghost use Rattle.std.specs.Prelude.{◌≡◌, [], ◌∷◌, ◌+◌, ◌≤◌, ◌<◌, length, drop};
-ghost use Rattle.records.specs.Format.{word, long, length_of, length_here, Here, record_here, read_here, split_of};
+ghost use Rattle.std.specs.Prelude.{◌≡◌, [], ◌∷◌, ◌+◌, ◌≤◌, ◌<◌, length};
+ghost use Rattle.records.specs.Format.{word, long, length_of, length_here, some_length, Here, record_here, read_here, record_count};
 ghost use Rattle.records.specs.Text.{decimal_digits, answer_line, Put};
 
-// The number of records and 0, or 0 and 19.
-#[repr(C)]
-#[derive(Clone, Copy)]
-pub struct Counted {
-    pub records: u32,
-    pub answer: u32,
-}
+use raster::Refusal;
 
 // A record, with its fields in their order.
 #[derive(Clone, Copy)]
@@ -29,168 +23,112 @@ pub enum Record {
     Shrink(u32),
 }
 
-// What stands at a place of the bytes: a whole record with its length, or none.
-#[derive(Clone, Copy)]
-pub enum Reading {
-    Whole(Record, usize),
-    Broken,
-}
-
 // ---- reading a record
 
-// A byte as a 16-bit number, and a 16-bit number as one of 32.
-fn wide(byte: u8) -> u16
-    ensures { (result ≡ byte) × (result ≤ 255) }
+// The 16-bit number at place i.
+fn word_at(bytes: &[u8], i: usize) -> u16
+    requires { i + 1 < length bytes.now }
+    ensures { result ≡ word bytes.now i }
 {
-    byte as u16
-}
-
-fn wider(word: u16) -> u32
-    ensures { (result ≡ word) × (result ≤ 65535) }
-{
-    word as u32
-}
-
-// The 16-bit number at place i of what starts at `at`.
-fn word_at(job: &[u8], at: usize, i: usize) -> u16
-    requires { (at + i) + 1 < length job.now }
-    ensures { result ≡ word (drop at job.now) i }
-{
-    let low = wide(job[at + i]);
-    let high = wide(job[at + i + 1]);
-    low + 256 * high
+    u16::from_le_bytes([bytes[i], bytes[i + 1]])
 }
 
 // The 32-bit number there.
-fn long_at(job: &[u8], at: usize, i: usize) -> u32
-    requires { (at + i) + 3 < length job.now }
-    ensures { result ≡ long (drop at job.now) i }
+fn long_at(bytes: &[u8], i: usize) -> u32
+    requires { i + 3 < length bytes.now }
+    ensures { result ≡ long bytes.now i }
 {
-    let low = wider(word_at(job, at, i));
-    let high = wider(word_at(job, at, i + 2));
-    low + 65536 * high
+    u32::from_le_bytes([bytes[i], bytes[i + 1], bytes[i + 2], bytes[i + 3]])
 }
 
-// The whole length of a record of a kind, or 0.
-fn length_of(kind: u16) -> usize
-    ensures { result ≡ length_of kind }
+// The whole length of a record of a kind, if there is that kind.
+#[tactic(auto, unfolding(crate::specs::Format::length_of))]
+fn length_of(kind: u16) -> Option<usize>
+    ensures { result ≡ some_length (length_of kind) }
 {
-    if (kind == 2) | ((kind == 3) | (kind == 5)) {
-        return 12;
+    match kind {
+        2 | 3 | 5 => Some(12),
+        4 => Some(6),
+        7 => Some(4),
+        1 | 6 | 8 | 9 => Some(8),
+        _ => None,
     }
-    if kind == 4 {
-        return 6;
-    }
-    if kind == 7 {
-        return 4;
-    }
-    if (1 <= kind) & (kind <= 9) {
-        return 8;
-    }
-    0
 }
 
-// The length of the record that starts at `at`, or 0.
-fn length_at(job: &[u8], at: usize) -> usize
-    requires { at ≤ length job.now }
-    ensures { result ≡ length_here (drop at job.now) }
+// The length of the record at the front.
+#[tactic(auto, unfolding(crate::specs::Format::length_here))]
+fn length_here(bytes: &[u8]) -> Option<usize>
+    ensures { result ≡ some_length (length_here bytes.now) }
 {
-    let left = job.len() - at;
-    if left < 4 {
-        return 0;
+    if bytes.len() < 4 {
+        return None;
     }
-    let size = word_at(job, at, 0) as usize;
-    if (size == length_of(word_at(job, at, 2))) & (size <= left) {
-        return size;
+    let length = length_of(word_at(bytes, 2))?;
+    if usize::from(word_at(bytes, 0)) == length && length <= bytes.len() {
+        Some(length)
+    } else {
+        None
     }
-    0
 }
 
-// The record that starts at `at`, by its kind.
-fn record_at(job: &[u8], at: usize) -> Record
-    requires { Here (drop at job.now) }
-    ensures { result ≡ record_here (drop at job.now) }
+// The record at the front, by its kind.
+#[tactic(auto, unfolding(crate::specs::Format::length_of, crate::specs::Format::record_here))]
+fn record_here(bytes: &[u8]) -> Record
+    requires { Here bytes.now }
+    ensures { result ≡ record_here bytes.now }
 {
-    let kind = word_at(job, at, 2);
-    if kind == 1 {
-        return Record::Open(word_at(job, at, 4), word_at(job, at, 6));
+    match word_at(bytes, 2) {
+        1 => Record::Open(word_at(bytes, 4), word_at(bytes, 6)),
+        2 => Record::Paint(
+            word_at(bytes, 4),
+            word_at(bytes, 6),
+            word_at(bytes, 8),
+            word_at(bytes, 10),
+        ),
+        3 => Record::Erase(
+            word_at(bytes, 4),
+            word_at(bytes, 6),
+            word_at(bytes, 8),
+            word_at(bytes, 10),
+        ),
+        4 => Record::Build(word_at(bytes, 4)),
+        5 => Record::Place(word_at(bytes, 4), word_at(bytes, 6), long_at(bytes, 8)),
+        6 => Record::Run(word_at(bytes, 4), word_at(bytes, 6)),
+        7 => Record::Lift,
+        8 => Record::Expand(long_at(bytes, 4)),
+        _ => Record::Shrink(long_at(bytes, 4)),
     }
-    if kind == 2 {
-        return Record::Paint(
-            word_at(job, at, 4),
-            word_at(job, at, 6),
-            word_at(job, at, 8),
-            word_at(job, at, 10),
-        );
-    }
-    if kind == 3 {
-        return Record::Erase(
-            word_at(job, at, 4),
-            word_at(job, at, 6),
-            word_at(job, at, 8),
-            word_at(job, at, 10),
-        );
-    }
-    if kind == 4 {
-        return Record::Build(word_at(job, at, 4));
-    }
-    if kind == 5 {
-        return Record::Place(
-            word_at(job, at, 4),
-            word_at(job, at, 6),
-            long_at(job, at, 8),
-        );
-    }
-    if kind == 6 {
-        return Record::Run(word_at(job, at, 4), word_at(job, at, 6));
-    }
-    if kind == 7 {
-        return Record::Lift;
-    }
-    if kind == 8 {
-        return Record::Expand(long_at(job, at, 4));
-    }
-    Record::Shrink(long_at(job, at, 4))
 }
 
-// What stands at `at`.
-pub fn read(job: &[u8], at: usize) -> Reading
-    requires { at ≤ length job.now }
-    ensures { result ≡ read_here (drop at job.now) }
+// The record at the front with its length, if a whole one stands there.
+#[tactic(auto, unfolding(crate::specs::Format::read_here), using(crate::specs::FormatLaws::some_is))]
+pub fn read(bytes: &[u8]) -> Option<(Record, usize)>
+    ensures { result ≡ read_here bytes.now }
 {
-    let length = length_at(job, at);
-    if length == 0 {
-        return Reading::Broken;
-    }
-    Reading::Whole(record_at(job, at), length)
+    let length = length_here(bytes)?;
+    Some((record_here(bytes), length))
 }
 
 // ---- splitting
 
-// Splits the bytes of a job file.
-pub fn split(job: &[u8]) -> Counted
-    ensures { result ≡ split_of job.now }
+// Splits the bytes of a job file into so many records. Refusal: 19, the bytes are no job file.
+#[tactic(auto, unfolding(crate::specs::Format::record_count, crate::specs::Format::is_job, crate::specs::Format::records_of), using(crate::specs::FormatLaws::some_is))]
+pub fn split(job: &[u8]) -> Result<u32, Refusal>
+    ensures { result ≡ record_count job.now }
 {
     if 65536 < job.len() {
-        return Counted {
-            records: 0,
-            answer: 19,
-        };
+        return Err(Refusal::NotAJob);
     }
-    let mut at = 0;
+    let mut rest = job;
     let mut records = 0;
-    while at < job.len() {
-        let size = length_at(job, at);
-        if size == 0 {
-            return Counted {
-                records: 0,
-                answer: 19,
-            };
-        }
-        at += size;
+    while !rest.is_empty() {
+        let Some(length) = length_here(rest) else {
+            return Err(Refusal::NotAJob);
+        };
+        rest = &rest[length..];
         records += 1;
     }
-    Counted { records, answer: 0 }
+    Ok(records)
 }
 
 // ---- writing the text
@@ -209,7 +147,7 @@ fn digit(n: u32) -> u8
     requires { n < 10 }
     ensures { result ≡ 48 + n }
 {
-    48 + (n as u8)
+    b'0' + (n as u8)
 }
 
 // Writes the last decimal digits of n, at most so many.
@@ -233,7 +171,7 @@ pub fn put_line(out: &mut [u8], at: usize, number: u32, answer: u32) -> usize
     ensures { Put out.old at (answer_line number answer) result out.new }
 {
     let numbered = put_number(out, at, number, 10);
-    let spaced = put_byte(out, numbered, 32);
+    let spaced = put_byte(out, numbered, b' ');
     let answered = put_number(out, spaced, answer, 10);
-    put_byte(out, answered, 10)
+    put_byte(out, answered, b'\n')
 }

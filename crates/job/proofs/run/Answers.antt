@@ -1,6 +1,5 @@
 -- `job::run` meets its contract: the four cases of its answer; the text is put_line's or run_all's.
-use mathlib.Core.Path.{refl, ap}
-use native.Mathlib.Omega.{arith}
+use Rattle.std.proofs.Common.{refl, ap, arith}
 use Rattle.cutter.specs.Kinds.{Maps}
 use Rattle.records.specs.FormatLaws.{split_done, split_refused}
 use Rattle.records.specs.Text.{decimal_digits, answer_line}
@@ -13,43 +12,46 @@ pub returns-then-out-lt5 : goal.returns-then-out-lt5
 unfolding printed state_left
 returns-then-out-lt5 c =
     let a = c.args in
-    rw (no-room_to_refuse a.job.now a.out.now (split_refused a.job.now c.split-counted.ensures c.if-counted-ne0.true) c.if-out-lt5.true)
+    rw (no-room_to_refuse a.job.now a.out.now (split_refused a.job.now c.in-Err.ensures).0 c.if-out-lt5.true, c.number.ensures)
     (record { answered = refl; counted = refl; out_left = refl; sheet_left = refl; map_left = refl; values_left = refl; scratch_left = refl })
 
 pub put_line-requires : goal.put_line-requires
 unfolding answer_line decimal_digits
-put_line-requires c = omega arith
+put_line-requires c =
+    let nineteen = (split_refused c.args.job.now c.in-Err.ensures).1 in
+    rw (c.number-answer.ensures, nineteen) (omega arith)
 
-pub returns-then-counted-ne0 : goal.returns-then-counted-ne0
+pub returns-in-Err : goal.returns-in-Err
 unfolding printed text_of state_left
-returns-then-counted-ne0 c =
+returns-in-Err c =
     let a = c.args in
-    let is = split_refused a.job.now c.split-counted.ensures c.if-counted-ne0.true in
-    let f = put_front c.put_line.ensures in
-    rw (not_split a.job.now a.out.now is c.if-out-lt5.false, is)
+    let refused = split_refused a.job.now c.in-Err.ensures in
+    let nineteen = c.number-answer.ensures in
+    let f = put_front (rw (nineteen, refused.1) at c.put_line.ensures) in
+    rw (not_split a.job.now a.out.now refused.0 c.if-out-lt5.false, refused.0, nineteen, refused.1)
     (record { answered = refl; counted = f.0; out_left = f.1; sheet_left = refl; map_left = refl; values_left = refl; scratch_left = refl })
 
-pub returns-then-out-counted : goal.returns-then-out-counted
+pub returns-then-out-records : goal.returns-then-out-records
 unfolding printed state_left
-returns-then-out-counted c =
+returns-then-out-records c =
     let a = c.args in
-    let d = split_done a.job.now c.split-counted.ensures c.if-counted-ne0.false in
-    rw (no-room_to_run a.job.now a.out.now d.0 (omega (arith, d.1, c.if-out-counted.true)))
+    let d = split_done a.job.now c.in-Ok.ensures in
+    rw (no-room_to_run a.job.now a.out.now d.0 (omega (arith, d.1, c.if-out-records.true)), c.number-then-out-records.ensures)
     (record { answered = refl; counted = refl; out_left = refl; sheet_left = refl; map_left = refl; values_left = refl; scratch_left = refl })
 
 pub run_all-requires : goal.run_all-requires
 run_all-requires c =
-    let d = split_done c.args.job.now c.split-counted.ensures c.if-counted-ne0.false in
-    (d.0, omega (arith, d.1, c.if-out-counted.false))
+    let d = split_done c.args.job.now c.in-Ok.ensures in
+    (d.0, omega (arith, d.1, c.if-out-records.false))
 
 pub returns : goal.returns
 unfolding printed text_of state_left
 returns c =
     let a = c.args in
-    let d = split_done a.job.now c.split-counted.ensures c.if-counted-ne0.false in
+    let d = split_done a.job.now c.in-Ok.ensures in
     let f = put_front c.run_all.ensures.text in
     let l = c.run_all.ensures.buffers in
-    rw (run_whole a.job.now a.out.now d.0 (omega (arith, d.1, c.if-out-counted.false)), d.0)
+    rw (run_whole a.job.now a.out.now d.0 (omega (arith, d.1, c.if-out-records.false)), d.0)
     (record {
       answered = refl;
       counted = f.0;

@@ -1,0 +1,2 @@
+-- `Split` is what `planner_split` hands back.
+pub mod Split
