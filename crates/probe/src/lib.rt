@@ -116,7 +116,8 @@ impl Sheet<'_> {
     // every column has its copper.
     fn look_rows(&self, y: usize, below: &mut [u16; 2048]) -> Option<usize>
         requires { (y < self.now.h) × Upcomings (copper_of self.now.bytes.now self.now.w) self.now.w self.now.h y below.old }
-        ensures left { IfSome result (λ r. (y ≤ r) × ((r ≤ self.now.h) × LookedTos (copper_of self.now.bytes.now self.now.w) self.now.w self.now.h y r below.new)) }
+        ensures left { IfSome result (λ r. (y ≤ r) × ((r ≤ self.now.h)
+            × LookedTos (copper_of self.now.bytes.now self.now.w) self.now.w self.now.h y r below.new)) }
         ensures found { IfNone result (FirstBelows (copper_of self.now.bytes.now self.now.w) self.now.w self.now.h y below.new) }
     {
         let mut r = y;
@@ -142,8 +143,8 @@ impl Sheet<'_> {
         (self.h + 1) as u16
     }
 
-    // The number of the first copper of column x at or below row y: b, unless row y is past it. Then it lies at or below row r, since there is none from row y to
-    // row r − 1.
+    // The number of the first copper of column x at or below row y: b, unless row y is past it. Then it lies at or below row r, since there is none from row y
+    // to row r − 1.
     fn settled(&self, x: usize, y: usize, r: usize, b: u16) -> u16
         requires { (x < self.now.w) × ((y ≤ r) × ((r ≤ self.now.h) × LookedTo (copper_of self.now.bytes.now self.now.w) self.now.h x y r b)) }
         ensures { FirstBelow (copper_of self.now.bytes.now self.now.w) self.now.h x y result }

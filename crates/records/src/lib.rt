@@ -112,7 +112,7 @@ pub fn read(bytes: &[u8]) -> Option<(Record, usize)>
 // ---- splitting
 
 // Splits the bytes of a job file into so many records. Refusal: 19, the bytes are no job file.
-#[tactic(auto, unfolding(crate::specs::Format::record_count, crate::specs::Format::is_job, crate::specs::Format::records_of), using(crate::specs::FormatLaws::some_is))]
+#[tactic(auto, unfolding(crate::specs::Format::record_count, crate::specs::Format::is_job))]
 pub fn split(job: &[u8]) -> Result<u32, Refusal>
     ensures { result ≡ record_count job.now }
 {

@@ -62,8 +62,8 @@ trait Neighbours {
     // also the two at the corners
     ghost corners: { Bool };
 
-    // Every pixel of row y from its neighbours in the row before, which is labelled, and then from its left neighbour. It is inlined, so that o is a constant in
-    // its loop.
+    // Every pixel of row y from its neighbours in the row before, which is labelled, and then from its left neighbour. It is inlined, so that o is a constant
+    // in its loop.
     fn from_labelled(map: &mut [i16], keys: &mut RowKeys, w: usize, y: usize, before: usize, o: i32)
         requires row { RowOf w y map.old }
         requires rows { Beside w y before o map.old }
