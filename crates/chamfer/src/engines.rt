@@ -25,7 +25,6 @@ impl Draft {
     }
 
     // Its row of the table.
-    #[tactic(auto, unfolding(crate::specs::Engines::weights))]
     pub fn weights(self) -> StepWeights
         ensures side { result.side ≡ side_weight (engine_of self) }
         ensures corner { result.corner ≡ corner_weight (engine_of self) }

@@ -3,17 +3,16 @@
 use mathlib.Core.Path.{◌≡◌, refl, sym, ap, ◌∙◌}
 use mathlib.Core.Logic.{⊎_elim}
 use mathlib.Core.List.{List, ◌++◌}
-use Prim.Native.Nat.{ℕ, zero, suc, ◌+◌, ◌<◌, ◌≤◌}
+use Prim.Native.Nat.{ℕ, zero, suc, ◌<◌, ◌≤◌}
 use native.Mathlib.Omega.{arith}
 use lib.IntN.{ℤ, pos}
-use lib.ListN.{get_or, length, length-take, length-drop, get_or-append}
+use lib.ListN.{get_or, get_or-append}
 use Rattle.raster.specs.Pixels.{tabulate}
 use Rattle.raster.specs.PixelsLaws.{tabulate-at, tabulate-length}
 use Rattle.envelope.specs.Best.{no_site, better, best_site}
 use Rattle.envelope.specs.BestLaws.{best-found}
-use Rattle.exact.specs.Rows.{way_cost, site_way, way_at, row_costs, costs_of, Written, part}
+use Rattle.exact.specs.Rows.{way_cost, site_way, way_at, row_costs, costs_of, Written}
 use Rattle.exact.proofs.Runs.{run_same}
-use Rattle.exact.proofs.Split.{part_at}
 
 -- what stands in a working row whose first n numbers were written
 pub tabulated : {A : Type 0} (d : A) (n : ℕ) (f : ℕ → A) (rest s : List A) → s ≡ tabulate n f ++ rest → (k : ℕ) → k < n → get_or s k d ≡ f k
@@ -21,14 +20,6 @@ tabulated d n f rest s e k l =
     ap (λ (t : List _). get_or t k d) e
     ∙ get_or-append (tabulate n f) rest d k (omega (arith, tabulate-length n f))
     ∙ tabulate-at n f k d l
-
--- what stands in a working row to which a row's ways were copied
-pub copied : (m : List ℤ) (base w : ℕ) {row : List ℤ} (rest : List ℤ) → base + w ≤ length m → row ≡ part base (base + w) m
-    → (k : ℕ) → k < w → get_or (row ++ rest) k (pos 0) ≡ way_at m base k
-copied m base w rest room e k l =
-    rw e
-    (get_or-append (part base (base + w) m) rest (pos 0) k (simp (length-take, length-drop) (omega arith))
-    ∙ part_at base (base + w) m k (pos 0) (omega arith))
 
 -- ---- the best column goes by the costs of the row alone
 

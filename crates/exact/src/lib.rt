@@ -32,6 +32,16 @@ fn cost_of(v: i16) -> u32
     m * m
 }
 
+// Copies the ways of the row that starts at `base`.
+fn copy_row(map: &[i16], base: usize, w: usize, ways: &mut [i16])
+    requires { (base + w ≤ length map.now) × (w ≤ length ways.old) }
+    ensures { ways.new ≡ tabulate w (way_at map.now base) ++ drop w ways.old }
+{
+    for k in 0..w {
+        ways[k] = map[base + k];
+    }
+}
+
 // The costs of the first n columns.
 fn price_row(ways: &[i16], n: usize, cost: &mut [u32])
     requires { (n ≤ length ways.now) × (n ≤ length cost.old) }
@@ -199,7 +209,7 @@ fn solve_row(map: &mut [i16], base: usize, w: usize, ways: &mut [i16], rows: &mu
     requires { (2 * (base + w) ≤ length map.old) × ((w ≤ 2048) × (w ≤ length ways.old)) }
     ensures { Written base 0 w (way_at map.old base) (best_site (row_costs map.old base w) w) map.old map.new }
 {
-    ways[..w].copy_from_slice(&map[base..base + w]);
+    copy_row(map, base, w, ways);
     solve_parts(
         map,
         base,

@@ -47,7 +47,8 @@ impl Session {
         Ok(Session::opened_as(w, h))
     }
 
-    // Writes v in the rectangle.
+    // Writes v in the rectangle. It is inlined, so that paint and erase have one frame each.
+    #[inline(always)]
     pub(crate) fn try_fill(
         self,
         sheet: &mut [u8],

@@ -8,7 +8,7 @@ use native.Mathlib.Decide.{dec_le, dec_lt, ℕ_discrete}
 use native.Mathlib.Nat.{add-zero}
 use native.Mathlib.Omega.{arith}
 use lib.IntN.{ℤ}
-use lib.ListN.{length, get_or, set, replicate, get_or-replicate, get_or-eq_default}
+use lib.ListN.{length, get_or, set, replicate, get_or-replicate, get_or-eq_default, length-set}
 use lib.Seq.{get_or-set_other}
 use borrow.Author.Tests.{le-leb, lt-leb}
 use Rattle.raster.proofs.Writing.{set_more}
@@ -29,6 +29,7 @@ part-more {start} {f = f} {s = s} r l e = record { entry = set_more 0 (λ i u. u
 -- a write between the ends leaves them as they are
 ended_set : {w n : ℕ} {s : List ℕ} (v : ℕ) → Ended w s → n < w → Ended w (set s (n + 1) v)
 ended_set {w} {n} {s} v e l = record {
+  long = length-set s (n + 1) v ∙ e.long;
   left = get_or-set_other s (n + 1) 0 v 0 (omega arith) ∙ e.left;
   right = get_or-set_other s (n + 1) (w + 1) v 0 (omega arith) ∙ e.right;
 }
@@ -36,19 +37,22 @@ ended_set {w} {n} {s} v e l = record {
 -- ---- the columns of a row
 
 -- one column more is measured
-pub measured-more : {m : List ℤ} {base w n v : ℕ} {b : Band} → Measured m base w n b → n + 1 < length b.sizes → v ≡ own_at m (base + n)
+pub measured-more : {m : List ℤ} {base w n v : ℕ} {b : Band} → Measured m base w n b → n < w → w ≤ 2048 → v ≡ own_at m (base + n)
     → Measured m base w (n + 1) (record b { sizes = set b.sizes (n + 1) v })
-measured-more r l e = record { framed = record { sides = r.framed.sides; corners = r.framed.corners }; sizes = part-more r.sizes l e }
+measured-more {n = n} {v = v} {b = b} r l small e = record {
+  framed = record { long = length-set b.sizes (n + 1) v ∙ r.framed.long; sides = r.framed.sides; corners = r.framed.corners };
+  sizes = part-more r.sizes (omega (arith, r.framed.long)) e;
+}
 
 -- one column more is looked up
-pub looked_up_more : {w n u v : ℕ} {b c : Band} → LookedUp w n b c → n < w → n + 1 < length c.sides → n + 1 < length c.corners
+pub looked_up_more : {w n u v : ℕ} {b c : Band} → LookedUp w n b c → n < w → w ≤ 2048
     → u ≡ g false (counted (get_or c.sizes (n + 1) 0)) → v ≡ g true (counted (get_or c.sizes (n + 1) 0))
     → LookedUp w (n + 1) b (record c { sides = set c.sides (n + 1) u; corners = set c.corners (n + 1) v })
-looked_up_more {w} {n} {u} {v} r l sides corners e f = record {
-  framed = record { sides = ended_set u r.framed.sides l; corners = ended_set v r.framed.corners l };
+looked_up_more {w} {n} {u} {v} r l small e f = record {
+  framed = record { long = r.framed.long; sides = ended_set u r.framed.sides l; corners = ended_set v r.framed.corners l };
   sizes = r.sizes;
-  sides = part-more r.sides sides (e ∙ ap (λ (s : List ℕ). g false (counted (get_or s (n + 1) 0))) r.sizes);
-  corners = part-more r.corners corners (f ∙ ap (λ (s : List ℕ). g true (counted (get_or s (n + 1) 0))) r.sizes);
+  sides = part-more r.sides (omega (arith, r.framed.sides.long)) (e ∙ ap (λ (s : List ℕ). g false (counted (get_or s (n + 1) 0))) r.sizes);
+  corners = part-more r.corners (omega (arith, r.framed.corners.long)) (f ∙ ap (λ (s : List ℕ). g true (counted (get_or s (n + 1) 0))) r.sizes);
 }
 
 -- ---- a band
@@ -83,10 +87,10 @@ zero-at p = elim (dec_lt p 2050) [
 
 -- a blank band has its ends
 pub blank_framed : {w : ℕ} {b : Band} → Blank b → Framed w b
-blank_framed {w} z = record { sides = blank_ended z.sides; corners = blank_ended z.corners }
+blank_framed {w} z = record { long = rw z.sizes (omega arith); sides = blank_ended z.sides; corners = blank_ended z.corners }
   where
     blank_ended : {s : List ℕ} → s ≡ replicate 2050 0 → Ended w s
-    blank_ended e = record { left = rw e (zero-at 0); right = rw e (zero-at (w + 1)) }
+    blank_ended e = record { long = rw e (omega arith); left = rw e (zero-at 0); right = rw e (zero-at (w + 1)) }
 
 module _ {m : List ℤ} {w h : ℕ} {b : Band} where
   -- a row that is measured and looked up

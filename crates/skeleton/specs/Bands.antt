@@ -31,13 +31,15 @@ on_sheet w h f i j = cond (on_side w i && on_side h j) (f (index w (i - 1) (j - 
 pub record Part (start n : ℕ) (f : ℕ → ℕ) (s : List ℕ) : Type 0 where
   pub entry : (i : ℕ) → i < n → get_or s (i + start) 0 ≡ f i
 
--- 0 stands at both ends of w numbers
+-- 0 stands at both ends of w numbers, in a part of 2,050
 pub record Ended (w : ℕ) (s : List ℕ) : Type 0 where
+  pub long : length s ≡ 2050
   pub left : get_or s 0 0 ≡ 0
   pub right : get_or s (w + 1) 0 ≡ 0
 
--- 0 stands at both ends of the parts for sides and for corners
+-- three parts of 2,050 numbers; 0 stands at both ends of those for sides and for corners
 pub record Framed (w : ℕ) (b : Band) : Type 0 where
+  pub long : length b.sizes ≡ 2050
   pub sides : Ended w b.sides
   pub corners : Ended w b.corners
 

@@ -1,8 +1,11 @@
 -- `job::run` meets its contract: the four cases of its answer; the text is put_line's or run_all's.
-use Rattle.std.proofs.Common.{refl, ap, arith}
+use Rattle.std.specs.Prelude.{◌≡◌, List, [], ◌∷◌, ◌++◌, ℕ, ◌+◌, ◌/◌, ◌<◌, ◌≤◌, ltb, length}
+use Rattle.std.proofs.Common.{refl, ap, ◌∙◌, arith, lt-ltb}
+use Rattle.raster.specs.Refusal.{number_of}
+use Rattle.raster.specs.Tests.{cond_ind}
 use Rattle.cutter.specs.Kinds.{Maps}
 use Rattle.records.specs.FormatLaws.{split_done, split_refused}
-use Rattle.records.specs.Text.{decimal_digits, answer_line}
+use Rattle.records.specs.Text.{decimal_digits, answer_line, Put}
 use Rattle.records.specs.TextLaws.{put_front}
 use Rattle.job.specs.Run.{text_of, printed, state_left}
 use Rattle.job.specs.RunLaws.{no-room_to_refuse, not_split, no-room_to_run, run_whole}
@@ -15,20 +18,29 @@ returns-then-out-lt5 c =
     rw (no-room_to_refuse a.job.now a.out.now (split_refused a.job.now c.in-Err.ensures).0 c.if-out-lt5.true, c.number.ensures)
     (record { answered = refl; counted = refl; out_left = refl; sheet_left = refl; map_left = refl; values_left = refl; scratch_left = refl })
 
-pub put_line-requires : goal.put_line-requires
+-- the line of a refused job has at most five bytes, whatever its number of two digits
+refused_fits : (a : ℕ) (out : List ℕ) → a < 100 → 5 ≤ length out → 0 + length (answer_line 0 a) ≤ length out
 unfolding answer_line decimal_digits
+refused_fits a out two room =
+    rw (lt-ltb (a / 10) 10 (omega arith))
+    (cond_ind (λ (d : List ℕ). 0 + length ((48 ∷ []) ++ ((32 ∷ []) ++ (d ++ (10 ∷ [])))) ≤ length out) (ltb a 10) (λ _. omega arith) (λ _. omega arith))
+
+renumbered : {out after : List ℕ} {a b e : ℕ} → a ≡ b → Put out 0 (answer_line 0 a) e after → Put out 0 (answer_line 0 b) e after
+renumbered same put = rw same at put
+
+pub put_line-requires : goal.put_line-requires
 put_line-requires c =
-    let nineteen = (split_refused c.args.job.now c.in-Err.ensures).1 in
-    rw (c.number-answer.ensures, nineteen) (omega arith)
+    let nineteen = c.number-answer.ensures ∙ ap number_of (split_refused c.args.job.now c.in-Err.ensures).1 in
+    refused_fits _ _ (omega (arith, nineteen)) (omega (arith, c.if-out-lt5.false))
 
 pub returns-in-Err : goal.returns-in-Err
 unfolding printed text_of state_left
 returns-in-Err c =
     let a = c.args in
     let refused = split_refused a.job.now c.in-Err.ensures in
-    let nineteen = c.number-answer.ensures in
-    let f = put_front (rw (nineteen, refused.1) at c.put_line.ensures) in
-    rw (not_split a.job.now a.out.now refused.0 c.if-out-lt5.false, refused.0, nineteen, refused.1)
+    let nineteen = c.number-answer.ensures ∙ ap number_of refused.1 in
+    let f = put_front (renumbered nineteen c.put_line.ensures) in
+    rw (not_split a.job.now a.out.now refused.0 c.if-out-lt5.false, refused.0, nineteen)
     (record { answered = refl; counted = f.0; out_left = f.1; sheet_left = refl; map_left = refl; values_left = refl; scratch_left = refl })
 
 pub returns-then-out-records : goal.returns-then-out-records
