@@ -155,13 +155,15 @@ impl Sheet<'_> {
         self.look_column(x, r)
     }
 
-    // The columns that still look for another copper, one by one; from row y to row r − 1 they have none.
+    // The columns that still look for another copper, one by one; from row y to row r − 1 they have none. The sheet is copied, so that the compiler tests once
+    // for all columns whether a row is left to look at.
     fn look_columns(&self, y: usize, r: usize, below: &mut [u16; 2048])
         requires { (y ≤ r) × ((r ≤ self.now.h) × LookedTos (copper_of self.now.bytes.now self.now.w) self.now.w self.now.h y r below.old) }
         ensures { FirstBelows (copper_of self.now.bytes.now self.now.w) self.now.w self.now.h y below.new }
     {
-        for x in 0..self.w {
-            below[x] = self.settled(x, y, r, below[x]);
+        let sheet = *self;
+        for x in 0..sheet.w {
+            below[x] = sheet.settled(x, y, r, below[x]);
         }
     }
 
