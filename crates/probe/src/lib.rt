@@ -155,8 +155,8 @@ impl Sheet<'_> {
         self.look_column(x, r)
     }
 
-    // The columns that still look for another copper, one by one; from row y to row r − 1 they have none. The sheet is copied, so that the compiler tests once
-    // for all columns whether a row is left to look at.
+    // The columns that still look for another copper, one by one; from row y to row r − 1 they have none. The fields of the sheet are copied, not its
+    // bytes, so that the compiler tests once for all columns whether a row is left to look at.
     fn look_columns(&self, y: usize, r: usize, below: &mut [u16; 2048])
         requires { (y ≤ r) × ((r ≤ self.now.h) × LookedTos (copper_of self.now.bytes.now self.now.w) self.now.w self.now.h y r below.old) }
         ensures { FirstBelows (copper_of self.now.bytes.now self.now.w) self.now.w self.now.h y below.new }

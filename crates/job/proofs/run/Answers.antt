@@ -18,13 +18,14 @@ returns-then-out-lt5 c =
     rw (no-room_to_refuse a.job.now a.out.now (split_refused a.job.now c.in-Err.ensures).0 c.if-out-lt5.true, c.number.ensures)
     (record { answered = refl; counted = refl; out_left = refl; sheet_left = refl; map_left = refl; values_left = refl; scratch_left = refl })
 
--- the line of a refused job has at most five bytes, whatever its number of two digits
+-- the line of a refused job has at most five bytes if its answer has two digits at the most
 refused_fits : (a : ℕ) (out : List ℕ) → a < 100 → 5 ≤ length out → 0 + length (answer_line 0 a) ≤ length out
 unfolding answer_line decimal_digits
 refused_fits a out two room =
     rw (lt-ltb (a / 10) 10 (omega arith))
     (cond_ind (λ (d : List ℕ). 0 + length ((48 ∷ []) ++ ((32 ∷ []) ++ (d ++ (10 ∷ [])))) ≤ length out) (ltb a 10) (λ _. omega arith) (λ _. omega arith))
 
+-- a line that was written, by another name of its answer
 renumbered : {out after : List ℕ} {a b e : ℕ} → a ≡ b → Put out 0 (answer_line 0 a) e after → Put out 0 (answer_line 0 b) e after
 renumbered same put = rw same at put
 
